@@ -1,0 +1,6 @@
+pub mod Shape
+pub mod Search
+pub mod Fault
+pub mod Ways
+pub mod Routes
+pub mod Ahead

@@ -1,0 +1,19 @@
+//! The graph of stones that targets link, and its routes.
+#![tactic(auto)]
+
+mod fault;
+mod graph;
+mod listing;
+mod numbers;
+mod places;
+mod route;
+mod search;
+#[cfg(test)]
+mod tests;
+mod turn;
+
+pub use fault::{GraphFault, RouteFault};
+pub use graph::Graph;
+pub use listing::routes;
+pub use numbers::Numbers;
+pub use route::{Route, Routes};

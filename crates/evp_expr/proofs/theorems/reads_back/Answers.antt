@@ -1,0 +1,5 @@
+use Rattle.evp_expr.proofs.Prints.{reads_back_law}
+use Rattle.evp_expr.proofs.theorems.reads_back.Goals as goal
+
+pub returns : goal.returns
+returns c = reads_back_law

@@ -1,0 +1,13 @@
+pub mod Levels
+pub mod Tree
+pub mod Sound
+pub mod Nodes
+pub mod Lexing
+pub mod Grammar
+pub mod Parsing
+pub mod Steps
+pub mod Standing
+pub mod Opening
+pub mod Scanning
+pub mod Printing
+pub mod Laws

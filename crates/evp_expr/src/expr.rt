@@ -1,0 +1,48 @@
+//! Expressions that have been read.
+
+use crate::node::Node;
+use std::marker::Model;
+
+/// An expression. Contracts see its tree, with the places of its names, of each `[` and of its operators.
+#[derive(Debug, Drop)]
+pub struct Expr {
+    nodes: Vec<Node>,
+}
+
+impl Model for Expr {
+    ghost use Rattle.std.specs.Prelude.{◌≡◌};
+    ghost use Rattle.evp_expr.specs.Nodes.{tree_of, tree_code, nodes_of};
+    ghost use Rattle.evp_expr.specs.Sound.{IsSound};
+    ghost use Rattle.evp_expr.specs.Tree.{Tree};
+
+    ghost Value = { Tree };
+
+    ghost coded = { tree_code };
+
+    ghost view = { λ e. tree_of e.nodes.items };
+
+    ghost invariant = { λ e. (e.nodes.items ≡ nodes_of (tree_of e.nodes.items)) × IsSound (tree_of e.nodes.items) };
+}
+
+impl Expr {
+    ghost use Rattle.std.specs.Prelude.{◌≡◌};
+    ghost use Rattle.evp_expr.specs.Nodes.{nodes_of, tree_of};
+    ghost use Rattle.evp_expr.specs.Sound.{IsSound};
+
+    /// The expression of these nodes, which are those of a tree.
+    pub(crate) fn new(nodes: Vec<Node>) -> Expr
+        requires nodes { nodes.items ≡ nodes_of (tree_of nodes.items) }
+        requires sound { IsSound (tree_of nodes.items) }
+        ensures { result ≡ tree_of nodes.items }
+    {
+        Expr { nodes }
+    }
+
+    /// The nodes of the tree, each behind those of its parts, which stand from left to right.
+    pub fn nodes(&self) -> &[Node]
+        ensures nodes { result.now ≡ nodes_of self.now }
+        ensures sound { IsSound self.now }
+    {
+        self.nodes.as_slice()
+    }
+}

@@ -1,0 +1,28 @@
+pub mod Again
+pub mod CountedFields
+pub mod CountedReads
+pub mod Depths
+pub mod DescribedFields
+pub mod DescribedFormats
+mod DescriptionExamples
+pub mod Descriptions
+mod Examples
+pub mod Lists
+pub mod Paths
+pub mod Texts
+pub mod Trees
+pub mod ValueViews
+pub mod FieldsAgain
+pub mod FixedTexts
+pub mod FormatsAgain
+pub mod Loops
+pub mod Names
+pub mod Places
+pub mod Pushed
+pub mod StatedFields
+pub mod TypeTexts
+pub mod WellLaidFormats
+pub mod WellLaidTypes
+pub mod WideDigits
+pub mod WrittenTypes
+pub mod Zeros

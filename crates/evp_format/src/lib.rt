@@ -1,0 +1,42 @@
+//! Formats of records, their values, and what every operation on records means.
+#![tactic(auto)]
+
+mod broken;
+mod description;
+mod draft;
+mod field;
+mod format;
+mod format_id;
+mod laws;
+mod layout_fault;
+mod path;
+mod place;
+mod record_type;
+mod type_text;
+mod value;
+mod whole_type;
+
+pub use broken::Broken;
+pub use description::{
+    descriptions_are_distinct, faults_are_exact, read_description, write_description,
+};
+pub use draft::{
+    DraftField, DraftShape, draft_extent, draft_of, has_field, has_type, is_base_size, may_default,
+    nested_length,
+};
+pub use field::{Base, Field, Shape};
+pub use format::Format;
+pub use format_id::{FormatId, id_of};
+pub use laws::{earlier_trees_stay, zero_is_of_format};
+pub use layout_fault::{LayoutFault, Which};
+pub use path::path_of;
+pub use place::{Place, PlaceStep};
+pub use record_type::{Fields, RecordType};
+pub use type_text::{type_name_of, type_text_of};
+pub use value::{Items, Members, TextBytes, Value};
+pub use whole_type::{
+    count_with_default, counted_fields, depth_behind, refuse_count_default, refuse_nesting,
+};
+
+#[cfg(test)]
+mod tests;

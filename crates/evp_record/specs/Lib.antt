@@ -1,0 +1,11 @@
+pub mod Class
+pub mod Laws
+pub mod Marks
+pub mod Onto
+pub mod Owned
+pub mod OwnedBytes
+pub mod Parts
+pub mod Record
+pub mod Samples
+pub mod Spots
+pub mod Walks

@@ -1,0 +1,26 @@
+//! Records whole: the check of a stranger's bytes, readers that never leave them, and packing.
+#![tactic(auto)]
+
+mod fields;
+mod laws;
+mod owned;
+mod packing;
+mod part;
+mod put;
+mod readers;
+mod record;
+mod spot;
+mod walk;
+mod whole;
+mod words;
+
+pub use evp_format::Broken;
+pub use laws::{packed_is_viewed, viewed_is_of_format};
+pub use owned::Owned;
+pub use packing::pack;
+pub use record::{Checked, check};
+pub use spot::Spot;
+pub use whole::view;
+
+#[cfg(test)]
+mod tests;

@@ -1,0 +1,89 @@
+//! Checked records, and the check that makes them.
+
+ghost use Rattle.std.specs.Prelude.{◌≡◌, ◌^◌, ◌<◌, length, Err, IsOk, IfOk, IfErr};
+ghost use Rattle.evp_format.specs.Viewing.{view};
+ghost use Rattle.evp_record.specs.Record.{IsRecord, record_of};
+
+use crate::Spot;
+use crate::walk::check_record;
+use evp_format::{Broken, Format, Place};
+use std::marker::Model;
+
+/// Bytes that are a record of a format: fewer than 2^32, and with a value in the format. Only
+/// `check` and `Owned::checked` make one.
+#[derive(Drop)]
+pub struct Checked<'a> {
+    format: &'a Format,
+    bytes: &'a [u8],
+}
+
+impl<'a> Model for Checked<'a> {
+    ghost use Rattle.evp_record.specs.Record.{Record, IsRecord};
+
+    ghost Value = { Record };
+
+    ghost view = { λ c. record { layout = c.format.now; bytes = c.bytes.now } };
+
+    ghost invariant = { λ c. IsRecord (record { layout = c.format.now; bytes = c.bytes.now }) };
+}
+
+/// Walks the bytes once: fields as listed, elements by index. Ok exactly where they have a value in
+/// the format, else the first fault with its place. Each string's and each counted array's block
+/// starts at or after the end of the block before it. At a counted array a negative count comes
+/// first, then a null pointer at a count above 0, then the block's place. Gaps, padding and bytes
+/// behind the last block are ignored. Takes no memory.
+pub fn check<'a>(format: &'a Format, bytes: &'a [u8]) -> Result<Checked<'a>, Broken>
+    requires { length bytes.now < 2 ^ 32 }
+    ensures held { IfOk result (λ item. item ≡ record_of format.now bytes.now) }
+    ensures viewed { IfOk result (λ _. IsOk (view format.now bytes.now)) }
+    ensures fault { IfErr result (λ fault. view format.now bytes.now ≡ Err fault) }
+{
+    let types = format.types();
+    let last = types.len() - 1;
+    let length = types[last].length as usize;
+    if bytes.len() < length {
+        return Err(Broken::ShortRecord);
+    }
+    let root = Spot {
+        type_number: last as u16,
+        at: 0,
+    };
+    check_record(format, bytes, root, &Place::root(), length)?;
+    Ok(Checked { format, bytes })
+}
+
+impl<'a> Checked<'a> {
+    // Bytes that are known to have a value in the format.
+    pub(crate) fn of_viewed(format: &'a Format, bytes: &'a [u8]) -> Checked<'a>
+        requires { IsRecord (record_of format.now bytes.now) }
+        ensures { result ≡ record_of format.now bytes.now }
+    {
+        Checked { format, bytes }
+    }
+
+    /// The format of the record.
+    pub fn format(&self) -> &'a Format
+        ensures value { result.now ≡ self.now.layout }
+        ensures kept { IsRecord self.now }
+    {
+        self.format
+    }
+
+    /// The record's bytes, which have a value in the format.
+    pub fn bytes(&self) -> &'a [u8]
+        ensures value { result.now ≡ self.now.bytes }
+        ensures kept { IsRecord self.now }
+    {
+        self.bytes
+    }
+
+    /// The same record, lent once more. Takes no memory.
+    pub fn copy(&self) -> Checked<'a>
+        ensures { result ≡ self.now }
+    {
+        Checked {
+            format: self.format,
+            bytes: self.bytes,
+        }
+    }
+}

@@ -1,0 +1,44 @@
+//! The words of a record: its numbers, pointers and the ends of its strings.
+
+ghost use Rattle.std.specs.Prelude.{◌≡◌, ◌+◌, ◌≤◌, ◌<◌, ◌^◌, length, IsTrue, IfSome, option_map};
+ghost use Rattle.evp_base.specs.Numbers.{number, is_size_of, InRange};
+ghost use Rattle.evp_format.specs.Bytes.{bytes_at};
+ghost use Rattle.evp_format.specs.Viewing.{pointer_at, image_of, until_zero};
+ghost use Rattle.evp_format.specs.WellLaid.{IsWellLaid};
+
+use evp_base::{Kind, get_number};
+use evp_format::Format;
+
+// The number that stands at `at`.
+pub(crate) fn number_at(format: &Format, bytes: &[u8], at: usize, kind: Kind, size: u32) -> i128
+    requires allowed { IsTrue (is_size_of kind size) }
+    requires inside { at + size ≤ length bytes.now }
+    ensures value { result ≡ number format.now.order kind (bytes_at at size bytes.now) }
+    ensures in_range { InRange kind size result }
+{
+    get_number(&bytes[at..at + size as usize], format.order(), kind, size)
+}
+
+// The pointer that stands at `at`.
+pub(crate) fn pointer_at(format: &Format, bytes: &[u8], at: usize) -> usize
+    requires laid { IsWellLaid format.now }
+    requires inside { at + format.now.pointer ≤ length bytes.now }
+    ensures { result ≡ pointer_at (image_of format.now bytes.now) at }
+{
+    let size = u32::from(format.pointer());
+    number_at(format, bytes, at, Kind::Unsigned, size) as usize
+}
+
+// How many bytes stand before the first zero byte, where there is one.
+#[tactic(auto, using(crate::proofs::Zeros::zeros))]
+pub(crate) fn zero_at(bytes: &[u8]) -> Option<usize>
+    ensures value { result ≡ option_map length (until_zero bytes.now) }
+    ensures within { IfSome result (λ n. n < length bytes.now) }
+{
+    for (index, byte) in bytes.iter().enumerate() {
+        if *byte == 0 {
+            return Some(index);
+        }
+    }
+    None
+}

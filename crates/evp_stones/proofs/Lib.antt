@@ -1,0 +1,9 @@
+mod ListFacts
+mod NameFacts
+mod FileFacts
+mod ReportFacts
+mod QuotedFacts
+mod OnErr
+mod AnswerFacts
+mod OutcomeFacts
+mod Examples

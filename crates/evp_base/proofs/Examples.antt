@@ -4,6 +4,7 @@ use Rattle.std.proofs.lemmas.Fmt.{decimal_digit, decimal_step}
 use Rattle.evp_base.specs.Name.{is_name}
 use Rattle.evp_base.specs.Numbers.{number, digits}
 use Rattle.evp_base.specs.Path.{path_text}
+use Rattle.evp_base.specs.Quoted.{quoted}
 use Rattle.evp_base.specs.declared.order.Order.TheVariants.{Little, Big}
 use Rattle.evp_base.specs.declared.kind.Kind.TheVariants.{Int, Unsigned, Boolean}
 use Rattle.evp_base.specs.declared.step.Step.TheVariants.{Field, Index}
@@ -61,3 +62,14 @@ field_and_index = rw (decimal_digit 3 (lit< tt)) refl
 
 index_first : path_text (Index 10 ∷ Field (codes "k") ∷ []) ≡ codes "[10].k"
 index_first = rw (decimal_step 10 (lit≤ tt) (lit< tt), decimal_digit 1 (lit< tt)) refl
+
+-- ---- texts in double quotes
+
+quotes_and_backslashes : quoted (codes "a\"b\\c ~") ≡ codes "\"a\\\"b\\\\c ~\""
+quotes_and_backslashes = refl
+
+bytes_by_number : quoted (0 ∷ 31 ∷ 127 ∷ 171 ∷ 255 ∷ []) ≡ codes "\"\\x00\\x1f\\x7f\\xab\\xff\""
+bytes_by_number = refl
+
+empty_text : quoted [] ≡ codes "\"\""
+empty_text = refl

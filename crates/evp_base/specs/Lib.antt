@@ -4,3 +4,4 @@ pub mod Name
 pub mod NameFields
 pub mod Numbers
 pub mod Path
+pub mod Quoted

@@ -1,6 +1,7 @@
 //! Names, paths and numbers: what every other crate speaks of.
 #![tactic(auto)]
 
+mod escaped;
 mod field_path;
 mod kind;
 mod laws;
@@ -8,10 +9,12 @@ mod memory;
 mod name;
 mod number;
 mod order;
+mod quoted;
 mod step;
 #[cfg(test)]
 mod tests;
 
+pub use escaped::Escaped;
 pub use field_path::FieldPath;
 pub use kind::Kind;
 pub use laws::{
@@ -19,7 +22,8 @@ pub use laws::{
     words_are_digits, words_are_magnitudes,
 };
 pub use memory::Memory;
-pub use name::Name;
+pub use name::{Name, begins_name, continues_name};
 pub use number::{fits, get_number, put_number};
 pub use order::Order;
+pub use quoted::Quoted;
 pub use step::Step;

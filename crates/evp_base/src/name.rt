@@ -132,15 +132,15 @@ fn padded(text: &[u8]) -> [u8; LONGEST]
     bytes
 }
 
-// Whether the byte may begin a name: a letter or `_`.
-fn begins_name(byte: u8) -> bool
+/// Whether the byte may begin a name: an ASCII letter or `_`.
+pub fn begins_name(byte: u8) -> bool
     ensures { result ≡ begins_name byte }
 {
     byte.is_ascii_alphabetic() || byte == b'_'
 }
 
-// Whether the byte may stand behind the first of a name: a letter, a digit or `_`.
-fn continues_name(byte: u8) -> bool
+/// Whether the byte may stand behind the first of a name: an ASCII letter, a digit or `_`.
+pub fn continues_name(byte: u8) -> bool
     ensures { result ≡ continues_name byte }
 {
     begins_name(byte) || byte.is_ascii_digit()

@@ -1,4 +1,7 @@
-use crate::{FieldPath, Kind, Memory, Name, Order, Step, fits, get_number, put_number};
+use crate::{
+    Escaped, FieldPath, Kind, Memory, Name, Order, Quoted, Step, begins_name, continues_name, fits,
+    get_number, put_number,
+};
 use std::test::Fail;
 
 #[test]
@@ -66,5 +69,41 @@ fn paths_are_written(rt: HostRuntime) -> Result<(), Fail> {
     let others = FieldPath::from_steps(path.into_steps());
     assert_eq!(rt; others.steps().len(), 3);
     assert_eq!(rt; format!(in rt.alloc(); "{Memory}")?.as_str(), "memory");
+    Ok(())
+}
+
+#[test]
+fn bytes_of_names(rt: HostRuntime) {
+    for (byte, begins, continues) in [
+        (b'A', true, true),
+        (b'z', true, true),
+        (b'_', true, true),
+        (b'0', false, true),
+        (b'9', false, true),
+        (b'-', false, false),
+        (b' ', false, false),
+        (0xc3, false, false),
+    ] {
+        assert_eq!(rt; begins_name(byte), begins, "{byte}");
+        assert_eq!(rt; continues_name(byte), continues, "{byte}");
+    }
+}
+
+#[test]
+fn texts_in_quotes(rt: HostRuntime) -> Result<(), Fail> {
+    let rows: [(&[u8], &str); 6] = [
+        (b"", "\"\""),
+        (b"a.ndr", "\"a.ndr\""),
+        (b" ~", "\" ~\""),
+        (b"a\"b\\c", "\"a\\\"b\\\\c\""),
+        (&[0, 9, 10, 31], "\"\\x00\\x09\\x0a\\x1f\""),
+        (&[127, 171, 255], "\"\\x7f\\xab\\xff\""),
+    ];
+    for (bytes, text) in rows {
+        let shown = Quoted(bytes).to_string(rt.alloc())?;
+        assert_eq!(rt; shown.as_str(), text);
+    }
+    assert_eq!(rt; Escaped::new(b'"').as_str(), "\\\"");
+    assert_eq!(rt; Escaped::new(0xab).as_bytes().len(), 4);
     Ok(())
 }

@@ -1,22 +1,8 @@
 -- A value as text: numbers in decimal, texts in double quotes, lists in brackets, records in braces; no blanks.
-use Rattle.std.specs.Prelude.{ℕ, ◌/◌, ◌%◌, ◌&&◌, nat_eq, nat_le, if◌then◌else◌, List, [], ◌∷◌, ◌++◌, codes}
-use Rattle.std.specs.Fmt.{signed_decimal, digit_glyph}
-use Rattle.std.specs.Prelude.{false}
+use Rattle.std.specs.Prelude.{ℕ, List, [], ◌∷◌, ◌++◌, codes}
+use Rattle.std.specs.Fmt.{signed_decimal}
+use Rattle.evp_base.specs.Quoted.{quoted}
 use Rattle.evp_format.specs.Datum.{Datum, num, null, text, list, rec, Elements, empty_list, element, Entries, empty_record, entry}
-
--- a byte of a quoted text: a printable one stands for itself, the quote and the backslash behind a backslash, every other as `\x` and two lower case hexadecimal digits
-abbrev pub quoted_byte : ℕ → List ℕ
-quoted_byte byte =
-    if nat_eq byte 34 then codes "\\\"" else (if nat_eq byte 92 then codes "\\\\" else
-    (if nat_le 32 byte && nat_le byte 126 then byte ∷ [] else codes "\\x" ++ digit_glyph false (byte / 16) ∷ digit_glyph false (byte % 16) ∷ []))
-
-abbrev pub quoted_bytes : List ℕ → List ℕ
-quoted_bytes [] = []
-quoted_bytes (byte ∷ bytes) = quoted_byte byte ++ quoted_bytes bytes
-
--- a text in double quotes
-abbrev pub quoted : List ℕ → List ℕ
-quoted bytes = codes "\"" ++ quoted_bytes bytes ++ codes "\""
 
 abbrev mutual
   pub value_text : Datum → List ℕ

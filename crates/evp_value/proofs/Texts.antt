@@ -2,7 +2,7 @@
 use Rattle.std.proofs.Common.{◌≡◌, ℕ, zero, suc, ◌+◌, ◌<◌, List, [], ◌∷◌, ◌++◌, length, take, get_or, sym, ap, ◌∙◌, arith, append_assoc, add-one, codes}
 use Rattle.std.proofs.lemmas.List.{append-nil}
 use Rattle.evp_format.specs.declared.value.Value.{Value}
-use Rattle.evp_format.specs.ValueText.{value_text, elements_text, more_elements_text, entries_text, more_entries_text, quoted_byte, quoted_bytes}
+use Rattle.evp_format.specs.ValueText.{value_text, elements_text, more_elements_text, entries_text, more_entries_text}
 use Rattle.evp_format.specs.ValueView.{datum_of, elements_of_values, entries_of_pairs}
 
 -- a part that stands behind another, joined to what stands before both
@@ -12,15 +12,6 @@ joined first more rest next same = rw same (sym (append_assoc first rest next))
 -- what is written behind a text that already stands behind another
 pub grows : (start first next : List ℕ) {text before more : List ℕ} → text ≡ before ++ next → before ≡ start ++ first → more ≡ first ++ next → text ≡ start ++ more
 grows start first next written stood same = written ∙ ap (λ (b : List ℕ). b ++ next) stood ∙ append_assoc start first next ∙ ap (λ (m : List ℕ). start ++ m) (sym same)
-
-quoted_bytes-take_suc : (bytes : List ℕ) (k : ℕ) → k < length bytes → quoted_bytes (take (suc k) bytes) ≡ quoted_bytes (take k bytes) ++ quoted_byte (get_or bytes k 0)
-quoted_bytes-take_suc [] k below = absurd (omega arith)
-quoted_bytes-take_suc (byte ∷ bytes) zero below = append-nil (quoted_byte byte)
-quoted_bytes-take_suc (byte ∷ bytes) (suc k) below =
-    joined (quoted_byte byte) (quoted_bytes (take (suc k) bytes)) (quoted_bytes (take k bytes)) (quoted_byte (get_or bytes k 0)) (quoted_bytes-take_suc bytes k (omega arith))
-
-pub quoted_bytes-take : (bytes : List ℕ) (k : ℕ) → k < length bytes → quoted_bytes (take (k + 1) bytes) ≡ quoted_bytes (take k bytes) ++ quoted_byte (get_or bytes k 0)
-quoted_bytes-take bytes k below = rw add-one (quoted_bytes-take_suc bytes k below)
 
 -- an element behind the first
 abbrev next_element : Value → List ℕ

@@ -1,11 +1,10 @@
 //! Values as text.
 
-ghost use Rattle.std.specs.Prelude.{◌≡◌, ◌/◌, ◌%◌, ◌<◌, [], ◌∷◌, ◌++◌, ◌&&◌, nat_le, false, OnOk, IfOk, string_bytes, codes};
-ghost use Rattle.std.specs.Fmt.{digit_glyph};
-ghost use Rattle.evp_format.specs.ValueText.{value_text, elements_text, entries_text, quoted, quoted_bytes, quoted_byte};
+ghost use Rattle.std.specs.Prelude.{◌≡◌, ◌++◌, OnOk, IfOk, string_bytes, codes};
+ghost use Rattle.evp_format.specs.ValueText.{value_text, elements_text, entries_text};
 ghost use Rattle.evp_format.specs.ValueView.{datum_of, elements_of_values, entries_of_pairs};
 
-use evp_base::{Memory, Name};
+use evp_base::{Memory, Name, Quoted};
 use evp_format::Value;
 use std::alloc::{AllocError, Global};
 
@@ -28,7 +27,7 @@ fn write_value(text: &mut String, value: &Value) -> Result<(), AllocError>
     match value {
         Value::Num(number) => write!(text, "{number}"),
         Value::Null => text.push_str("null"),
-        Value::Text(bytes) => write_quoted(text, bytes.as_slice()),
+        Value::Text(bytes) => write!(text, "{}", Quoted(bytes.as_slice())),
         Value::List(items) => write_elements(text, items.values.as_slice()),
         Value::Rec(members) => write_entries(text, members.pairs.as_slice()),
     }
@@ -72,56 +71,4 @@ fn write_entry(text: &mut String, name: &Name, value: &Value) -> Result<(), Allo
     text.push_str(name.as_str())?;
     text.push_str("=")?;
     write_value(text, value)
-}
-
-// A text in double quotes.
-fn write_quoted(text: &mut String, bytes: &[u8]) -> Result<(), AllocError>
-    ensures { OnOk result (string_bytes text.new ≡ string_bytes text.old ++ quoted bytes.now) }
-{
-    text.push('"')?;
-    for byte in bytes {
-        write_byte(text, *byte)?;
-    }
-    text.push('"')
-}
-
-// A byte of a quoted text.
-fn write_byte(text: &mut String, byte: u8) -> Result<(), AllocError>
-    ensures { OnOk result (string_bytes text.new ≡ string_bytes text.old ++ quoted_byte byte) }
-{
-    match byte {
-        b'"' => text.push_str("\\\""),
-        b'\\' => text.push_str("\\\\"),
-        _ if is_printable(byte) => text.push(char::from(byte)),
-        _ => write_escaped(text, byte),
-    }
-}
-
-// Whether the byte stands for itself in ASCII: the space and what has a glyph.
-fn is_printable(byte: u8) -> bool
-    ensures { result ≡ (nat_le 32 byte && nat_le byte 126) }
-{
-    (0x20..=0x7e).contains(&byte)
-}
-
-// A byte as `\x` and two hexadecimal digits.
-fn write_escaped(text: &mut String, byte: u8) -> Result<(), AllocError>
-    ensures { OnOk result (string_bytes text.new ≡ string_bytes text.old ++ (codes "\\x" ++ digit_glyph false (byte / 16) ∷ digit_glyph false (byte % 16) ∷ [])) }
-{
-    text.push_str("\\x")?;
-    text.push(hexadecimal(byte / 16))?;
-    text.push(hexadecimal(byte % 16))
-}
-
-// The lower case hexadecimal digit.
-fn hexadecimal(digit: u8) -> char
-    requires { digit < 16 }
-    ensures value { result ≡ digit_glyph false digit }
-    ensures ascii { result < 128 }
-{
-    char::from(if digit < 10 {
-        b'0' + digit
-    } else {
-        b'a' + (digit - 10)
-    })
 }

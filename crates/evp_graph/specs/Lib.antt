@@ -4,3 +4,4 @@ pub mod Fault
 pub mod Ways
 pub mod Routes
 pub mod Ahead
+pub mod Texts

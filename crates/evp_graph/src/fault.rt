@@ -1,5 +1,10 @@
 //! Why there is no graph, and why there is no list of routes.
 
+ghost use Rattle.std.specs.Prelude.{Some};
+ghost use Rattle.std.specs.List.{flat_map};
+ghost use Rattle.std.specs.Fmt.{WritesOnOk};
+ghost use Rattle.evp_graph.specs.Texts.{blank_and_stone, graph_fault_text, route_fault_text};
+
 use crate::numbers::Numbers;
 use std::alloc::{AllocError, AllocFailed};
 use std::error::Error;
@@ -20,22 +25,31 @@ pub enum GraphFault {
 }
 
 impl fmt::Display for GraphFault {
+    ghost output = { λ fault. Some (graph_fault_text fault) };
+
     fn fmt<W: fmt::Write>(&self, f: &mut fmt::Formatter<W>) -> fmt::Result {
         match self {
             GraphFault::NoTarget(stone, position) => {
                 write!(f, "no target {position} of stone {stone}")
             }
             GraphFault::Cycle(stones) => {
-                write!(f, "cycle")?;
-                for stone in stones.as_slice() {
-                    write!(f, " {stone}")?;
-                }
-                Ok(())
+                f.write_str("cycle")?;
+                write_stones(f, stones.as_slice())
             }
             GraphFault::NoStone(source) => write!(f, "no stone of source {source}"),
-            GraphFault::Memory => write!(f, "out of memory"),
+            GraphFault::Memory => f.write_str("memory"),
         }
     }
+}
+
+// Writes the stones, a blank before each.
+fn write_stones<W: fmt::Write>(f: &mut fmt::Formatter<W>, stones: &[u16]) -> fmt::Result
+    ensures { WritesOnOk W.write_str_gives f.old result (flat_map blank_and_stone stones.now) f.new }
+{
+    for stone in stones {
+        write!(f, " {stone}")?;
+    }
+    Ok(())
 }
 
 impl Error for GraphFault {}
@@ -61,10 +75,12 @@ pub enum RouteFault {
 }
 
 impl fmt::Display for RouteFault {
+    ghost output = { λ fault. Some (route_fault_text fault) };
+
     fn fmt<W: fmt::Write>(&self, f: &mut fmt::Formatter<W>) -> fmt::Result {
         match self {
-            RouteFault::TooMany => write!(f, "too many routes"),
-            RouteFault::Memory => write!(f, "out of memory"),
+            RouteFault::TooMany => f.write_str("too many routes"),
+            RouteFault::Memory => f.write_str("memory"),
         }
     }
 }

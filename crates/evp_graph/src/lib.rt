@@ -14,6 +14,6 @@ mod turn;
 
 pub use fault::{GraphFault, RouteFault};
 pub use graph::Graph;
-pub use listing::routes;
+pub use listing::{routes, routes_are_listed};
 pub use numbers::Numbers;
 pub use route::{Route, Routes};

@@ -154,3 +154,39 @@ fn at_most_1024_routes(rt: HostRuntime) -> Result<(), Fail> {
     }
     Ok(())
 }
+
+#[test]
+fn texts_of_faults(rt: HostRuntime) -> Result<(), Fail> {
+    let alloc = rt.alloc();
+    let cycle = GraphFault::Cycle(Numbers::new(vec![in alloc; 3u16, 10, 7]?));
+    for (fault, text) in [
+        (GraphFault::NoTarget(3, 0), "no target 0 of stone 3"),
+        (cycle, "cycle 3 10 7"),
+        (GraphFault::NoStone(12), "no stone of source 12"),
+        (GraphFault::Memory, "memory"),
+    ] {
+        assert_eq!(rt; fault.to_string(alloc)?.as_str(), text);
+    }
+    for (fault, text) in [
+        (RouteFault::TooMany, "too many routes"),
+        (RouteFault::Memory, "memory"),
+    ] {
+        assert_eq!(rt; fault.to_string(alloc)?.as_str(), text);
+    }
+    Ok(())
+}
+
+#[test]
+fn numbers_and_routes_are_given_back(rt: HostRuntime) -> Result<(), Fail> {
+    let alloc = rt.alloc();
+    let numbers = Numbers::new(vec![in alloc; 5u16, 6]?);
+    let longer = numbers.copy(alloc)?.with(alloc, 7)?.into_vec();
+    assert_eq!(rt; longer.as_slice(), [5, 6, 7].as_slice());
+    let targets = targets_of(alloc, &[&[1], &[]])?;
+    let graph = graph(alloc, &[0], targets.as_slice())??;
+    assert_eq!(rt; graph.sources(), [0].as_slice());
+    assert_eq!(rt; graph.targets().len(), 2);
+    let list = routes(alloc, &graph)?.into_vec();
+    assert_eq!(rt; list.len(), 2);
+    Ok(())
+}

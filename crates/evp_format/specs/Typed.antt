@@ -1,5 +1,5 @@
 -- The values of a type: a record with the type's fields as listed, each number in its range, each list of its length.
-use Rattle.std.specs.Prelude.{◌≡◌, ℕ, ℤ, pos, Option, Some, None, ⊤}
+use Rattle.std.specs.Prelude.{◌≡◌, ◌<◌, ℕ, ℤ, pos, All, Option, Some, None, ⊤}
 use Rattle.evp_base.specs.Numbers.{InRange}
 use Rattle.evp_format.specs.declared.field.Shape.{Shape}
 use Rattle.evp_format.specs.declared.field.Shape.TheVariants.{One, Fixed, Counted}
@@ -36,11 +36,11 @@ IsShaped all One P datum = P datum
 IsShaped all (Fixed n) P datum = IsListOf P (Some (pos n)) datum
 IsShaped all (Counted c) P datum = IsListOf P (count_in (entry_at all c)) datum
 
--- a text that is there or isn't
+-- a text that is there or isn't: bytes of which none is zero
 abbrev pub IsText : Datum → Type 0
 IsText (num z) = ⊥
 IsText null = ⊤
-IsText (text bytes) = HasNoZero bytes
+IsText (text bytes) = HasNoZero bytes × All (λ byte. byte < 256) bytes
 IsText (list values) = ⊥
 IsText (rec members) = ⊥
 

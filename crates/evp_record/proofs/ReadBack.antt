@@ -103,7 +103,7 @@ string_reads machine bytes place at size mark (text text') pointer typed some be
     let found : pointer_at (image_on machine bytes) at ≡ q = pointer_reads machine at q bytes pointer (omega (arith, fits, small)) held.0 in (
       q + length text' + 1,
       ap (view_string (image_on machine bytes) place mark) found
-          ∙ view_string-some machine bytes text' place mark q (omega (arith, after, some)) (omega (arith, after, behind)) (omega (arith, fits)) (text_reads q text' bytes typed held.1.0),
+          ∙ view_string-some machine bytes text' place mark q (omega (arith, after, some)) (omega (arith, after, behind)) (omega (arith, fits)) (text_reads q text' bytes typed.0 held.1.0),
       omega arith,
     )
 string_reads machine bytes place at size mark (num z) pointer typed some behind fits small held = absurd typed

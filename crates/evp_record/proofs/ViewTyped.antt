@@ -2,6 +2,8 @@
 use Rattle.std.proofs.Common.{◌≡◌, ℕ, zero, suc, ◌+◌, ◌*◌, ◌≤◌, ◌<◌, ℤ, pos, negsuc, Bool, true, false, ◌||◌, not, nat_lt, nat_eq, List, [], ◌∷◌, length, drop, Option, Some, None, option_map, refl, sym, ap, ◌∙◌, subst, arith, if◌then◌else◌}
 use Rattle.std.proofs.Math.Dec.{eqb-suc-zero}
 use Rattle.std.proofs.lemmas.Bool.{ltb-false}
+use Rattle.std.proofs.lemmas.List.Elements.{All-cons, All-drop, All-nil}
+use Rattle.evp_base.proofs.Digits.{AreBytes}
 use Rattle.evp_format.specs.Datum.{Datum, null, text, list, Elements, empty_list, element, count_of}
 use Rattle.evp_format.specs.declared.broken.Broken.{Broken}
 use Rattle.evp_format.specs.declared.place.PlaceStep.{PlaceStep}
@@ -31,18 +33,25 @@ either_false : (a b : Bool) → (a || b) ≡ false → (a ≡ false) × (b ≡ f
 either_false true b is = cc
 either_false false b is = (refl, is)
 
-behind_some : (n : ℕ) (found : Option (List ℕ)) (text' : List ℕ) → ((rest : List ℕ) → found ≡ Some rest → HasNoZero rest) → option_map (λ (rest : List ℕ). suc n ∷ rest) found ≡ Some text' → HasNoZero text'
-behind_some n None text' none is = cc
-behind_some n (Some rest) text' none is =
-    let same : suc n ∷ rest ≡ text' = cc in subst HasNoZero same ((λ (zero_byte : suc n ≡ 0). omega arith), none rest refl)
+-- bytes of which none is zero, as a text has them
+abbrev IsTextOf : List ℕ → Type 0
+IsTextOf bytes = HasNoZero bytes × AreBytes bytes
+
+behind_some : (n : ℕ) (found : Option (List ℕ)) (text' : List ℕ) → suc n < 256 → ((rest : List ℕ) → found ≡ Some rest → IsTextOf rest)
+    → option_map (λ (rest : List ℕ). suc n ∷ rest) found ≡ Some text' → IsTextOf text'
+behind_some n None text' small none is = cc
+behind_some n (Some rest) text' small none is =
+    let same : suc n ∷ rest ≡ text' = cc in
+    let behind = none rest refl in
+    subst IsTextOf same (((λ (zero_byte : suc n ≡ 0). omega arith), behind.0), All-cons (λ (byte : ℕ). byte < 256) (suc n) rest small behind.1)
 
 -- the bytes before a zero have none
-until_zero-no_zero : (bytes text' : List ℕ) → until_zero bytes ≡ Some text' → HasNoZero text'
-until_zero-no_zero [] text' is = cc
-until_zero-no_zero (zero ∷ bytes) text' is = let same : [] ≡ text' = cc in subst HasNoZero same tt
-until_zero-no_zero (suc n ∷ bytes) text' is =
+until_zero-no_zero : (bytes text' : List ℕ) → AreBytes bytes → until_zero bytes ≡ Some text' → IsTextOf text'
+until_zero-no_zero [] text' are is = cc
+until_zero-no_zero (zero ∷ bytes) text' are is = let same : [] ≡ text' = cc in subst IsTextOf same (tt, All-nil (λ (byte : ℕ). byte < 256))
+until_zero-no_zero (suc n ∷ bytes) text' are is =
     let test = ap (λ (t : Bool). if t then Some [] else option_map (λ (rest : List ℕ). suc n ∷ rest) (until_zero bytes)) (sym (eqb-suc-zero n)) in
-    behind_some n (until_zero bytes) text' (λ rest found. until_zero-no_zero bytes rest found) (test ∙ is)
+    behind_some n (until_zero bytes) text' (are 0 0 (omega arith)) (λ rest found. until_zero-no_zero bytes rest (λ k d below. are (suc k) d (omega arith)) found) (test ∙ is)
 
 -- elements that were read
 pub elements_typed : (P : Datum → Type 0) (one : ℕ → ℕ → Walked Datum) (n k mark end : ℕ) (elements : Elements)
@@ -60,13 +69,14 @@ elements_typed P one (suc n) k mark end elements each is =
     subst Typed same (ap suc others.0, (each k mark first.mark first.first (omega arith) first.reads, others.1))
 
 -- a string that was read
-pub string_typed : (image : Image) (place : List PlaceStep) (mark q end : ℕ) (value : Datum) → view_string image place mark q ≡ read value end → IsText value
-string_typed image place mark zero end value is = let same : null ≡ value = cc in subst IsText same tt
-string_typed image place mark (suc p) end value is =
+pub string_typed : (image : Image) (place : List PlaceStep) (mark q end : ℕ) (value : Datum) → AreBytes image.bytes → view_string image place mark q ≡ read value end → IsText value
+string_typed image place mark zero end value are is = let same : null ≡ value = cc in subst IsText same tt
+string_typed image place mark (suc p) end value are is =
     let through = passed (nat_lt (suc p) mark || not (nat_lt (suc p) (length image.bytes))) _ _ value end is in
-    ended (until_zero (drop (suc p) image.bytes)) (λ text' found. until_zero-no_zero (drop (suc p) image.bytes) text' found) through.1
+    let behind = All-drop (λ (byte : ℕ). byte < 256) (suc p) image.bytes are in
+    ended (until_zero (drop (suc p) image.bytes)) (λ text' found. until_zero-no_zero (drop (suc p) image.bytes) text' behind found) through.1
   where
-    ended : (found : Option (List ℕ)) → ((text' : List ℕ) → found ≡ Some text' → HasNoZero text') → ended_text place (suc p) found ≡ read value end → IsText value
+    ended : (found : Option (List ℕ)) → ((text' : List ℕ) → found ≡ Some text' → IsTextOf text') → ended_text place (suc p) found ≡ read value end → IsText value
     ended None none is' = cc
     ended (Some text') none is' = let same : text text' ≡ value = cc in subst IsText same (none text' refl)
 

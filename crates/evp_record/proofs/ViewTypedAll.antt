@@ -150,7 +150,7 @@ mutual
   part_typed image (number_part kind) element_size at place mark end value are laid inside is =
       let same : num (number image.order kind (bytes_at at element_size image.bytes)) ≡ value = cc in
       subst (IsNumberOf (InRange kind element_size)) same (number_typed image kind element_size at are laid inside)
-  part_typed image text_part element_size at place mark end value are laid inside is = string_typed image place mark (pointer_at image at) end value is
+  part_typed image text_part element_size at place mark end value are laid inside is = string_typed image place mark (pointer_at image at) end value are is
   part_typed image (tree_part nested) element_size at place mark end value are laid inside is =
       tree_typed image nested at place mark end value are laid.1 (omega (arith, laid.0, inside)) is
 

@@ -26,3 +26,11 @@ pub mod WellLaidTypes
 pub mod WideDigits
 pub mod WrittenTypes
 pub mod Zeros
+mod ClashExamples
+mod ConvertedCounts
+mod ConvertedDefaults
+mod ConvertedElements
+mod ConvertedNumbers
+mod FirstFaults
+mod ViewExamples
+mod Worked

@@ -1,5 +1,6 @@
 pub mod Bytes
 pub mod Clashing
+pub mod Conversion
 pub mod Converting
 pub mod Datum
 pub mod Describing

@@ -3,9 +3,8 @@
 use Rattle.std.proofs.Common.{◌≡◌, refl, [], ◌∷◌, Some, None}
 use Rattle.evp_base.specs.declared.order.Order.TheVariants.{Little, Big}
 use Rattle.evp_format.specs.Clashing.{clash}
-use Rattle.evp_format.specs.Datum.{text}
 use Rattle.evp_format.specs.Layout.{Layout, layout_with}
-use Rattle.evp_format.proofs.Worked.{integer, char, boolean, enumeration, string, nested, array, counted, type_of, name, number, listed, inside}
+use Rattle.evp_format.proofs.Worked.{integer, char, boolean, enumeration, string, nested, array, counted, type_of, name}
 
 abbrev record_then_number : Layout
 record_then_number =

@@ -3,7 +3,7 @@
 use Rattle.std.proofs.Common.{◌≡◌, pos, negsuc, refl, [], ◌∷◌}
 use Rattle.evp_base.specs.declared.order.Order.TheVariants.{Little, Big}
 use Rattle.evp_format.specs.Conversion.{conversion, converted, unfit_at, large_at}
-use Rattle.evp_format.specs.Datum.{num, text}
+use Rattle.evp_format.specs.Datum.{num}
 use Rattle.evp_format.specs.Layout.{Layout, layout_with}
 use Rattle.evp_format.proofs.Worked.{integer, unsigned, string, nested, array, counted, type_of, name, index, number, absent, written, listed, inside, record_of}
 

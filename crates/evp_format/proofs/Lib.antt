@@ -27,6 +27,7 @@ pub mod WideDigits
 pub mod WrittenTypes
 pub mod Zeros
 mod ClashExamples
+pub mod Clashes
 mod ConvertedCounts
 mod ConvertedDefaults
 mod ConvertedElements

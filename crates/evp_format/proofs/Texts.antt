@@ -1,5 +1,5 @@
 -- Bytes without a zero.
-use Rattle.std.proofs.Common.{◌≡◌, ◌≢◌, ℕ, zero, suc, Bool, true, false, nat_eq, List, [], ◌∷◌, refl, sym, ◌∙◌, arith, rules, true≢false}
+use Rattle.std.proofs.Common.{◌≡◌, ℕ, zero, suc, false, nat_eq, List, [], ◌∷◌, refl, arith, rules, true≢false}
 use Rattle.std.specs.List.{list_any}
 use Rattle.evp_format.specs.Text.{HasNoZero}
 

@@ -1,6 +1,6 @@
 -- A value, level by level.
-use Rattle.std.proofs.Common.{◌≡◌, refl, ap, ◌∙◌, List, ℕ, Vec, Global, rules}
-use Rattle.evp_format.specs.Datum.{num, null, text, list, rec}
+use Rattle.std.proofs.Common.{◌≡◌, ap, ◌∙◌, List, ℕ, Vec, Global, rules}
+use Rattle.evp_format.specs.Datum.{list, rec}
 use Rattle.evp_format.specs.ValueView.{datum_of, items_of, members_of, elements_of_values, entries_of_pairs}
 use Rattle.evp_format.specs.declared.value.Items.{Items, out-Items, roll-Items}
 use Rattle.evp_format.specs.declared.value.Members.{Members, out-Members, roll-Members}

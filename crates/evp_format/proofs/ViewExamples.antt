@@ -4,10 +4,10 @@ use Rattle.std.proofs.Common.{◌≡◌, pos, negsuc, refl, [], ◌∷◌, Ok, E
 use Rattle.evp_base.specs.declared.order.Order.TheVariants.{Little, Big}
 use Rattle.evp_format.specs.declared.broken.Broken.TheVariants as fault
 use Rattle.evp_format.specs.declared.place.PlaceStep.TheVariants.{At, Nth}
-use Rattle.evp_format.specs.Datum.{num, null, text}
+use Rattle.evp_format.specs.Datum.{num}
 use Rattle.evp_format.specs.Layout.{Layout, layout_with}
 use Rattle.evp_format.specs.Viewing.{view}
-use Rattle.evp_format.proofs.Worked.{integer, unsigned, char, boolean, enumeration, string, nested, array, counted, type_of, number, absent, written, listed, inside, record_of}
+use Rattle.evp_format.proofs.Worked.{integer, unsigned, char, boolean, enumeration, string, nested, array, counted, type_of, number, absent, written, listed, record_of}
 
 abbrev one_string : Layout
 one_string =

@@ -73,6 +73,11 @@ abbrev mutual
   clash_parts (tree_part from) text_part = None
   clash_parts (tree_part from) (tree_part to) = clash_trees from to
 
+-- a receiver field and the sender's field of its name, where there is one
+abbrev pub clash_field : Tree → Field → Part → Option (List Step)
+clash_field (tree length from) field part =
+    option_map (λ path. step.Field field.name ∷ path) (clash_partners (branch_named field.name from) field part (λ sender_part. clash_parts sender_part part))
+
 -- the first clash of two formats, where there is one
 abbrev pub clash : Layout → Layout → Option (List Step)
 clash from to = clash_trees (root_of from) (root_of to)

@@ -1,5 +1,5 @@
 -- A value as text: numbers in decimal, texts in double quotes, lists in brackets, records in braces; no blanks.
-use Rattle.std.specs.Prelude.{ℕ, List, [], ◌∷◌, ◌++◌, codes}
+use Rattle.std.specs.Prelude.{ℕ, List, [], ◌++◌, codes}
 use Rattle.std.specs.Fmt.{signed_decimal}
 use Rattle.evp_base.specs.Quoted.{quoted}
 use Rattle.evp_format.specs.Datum.{Datum, num, null, text, list, rec, Elements, empty_list, element, Entries, empty_record, entry}

@@ -2,6 +2,7 @@
 #![tactic(auto)]
 
 mod broken;
+mod clash;
 mod description;
 mod draft;
 mod field;
@@ -17,6 +18,7 @@ mod value;
 mod whole_type;
 
 pub use broken::Broken;
+pub use clash::clash_of;
 pub use description::{
     descriptions_are_distinct, faults_are_exact, read_description, write_description,
 };

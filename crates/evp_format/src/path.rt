@@ -37,8 +37,8 @@ fn field_in(types: &[RecordType], reached: Option<usize>, number: u16) -> Option
     record_type.fields.as_slice().get(usize::from(number))
 }
 
-// The type of the record that a field, or each of its elements, is.
-fn nested_type(field: &Field) -> Option<usize>
+/// The type of the record that a field, or each of its elements, is.
+pub(crate) fn nested_type(field: &Field) -> Option<usize>
     ensures { result ≡ nested_of field.now.base }
 {
     match field.base {

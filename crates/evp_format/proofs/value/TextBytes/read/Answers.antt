@@ -1,6 +1,5 @@
-use Rattle.std.proofs.Common.{◌≡◌, sym, ◌∙◌, ap, true, false, true≢false, refl, nat_eq}
+use Rattle.std.proofs.Common.{sym, ◌∙◌, ap, true≢false, refl, nat_eq}
 use Rattle.std.specs.List.{list_any}
-use Rattle.evp_format.specs.Text.{HasNoZero}
 use Rattle.evp_format.proofs.Texts.{no_zero-where_none, none-where_no_zero}
 use Rattle.evp_format.proofs.value.TextBytes.read.Goals as goal
 

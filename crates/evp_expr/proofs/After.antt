@@ -7,10 +7,10 @@ use Rattle.evp_expr.specs.declared.operator.Level.TheVariants.{Disjunction, Conj
 use Rattle.evp_expr.specs.declared.token.Placed.{Placed}
 use Rattle.evp_expr.specs.declared.token.Token.{Token}
 use Rattle.evp_expr.specs.declared.token.Token.TheVariants as token
-use Rattle.evp_expr.specs.declared.parser.Pending.{Pending}
-use Rattle.evp_expr.specs.declared.parser.Frame.{Frame}
-use Rattle.evp_expr.specs.declared.parser.Frame.TheVariants as frame
-use Rattle.evp_expr.specs.declared.parser.Mode.TheVariants as mode
+use Rattle.evp_expr.specs.declared.state.Pending.{Pending}
+use Rattle.evp_expr.specs.declared.state.Frame.{Frame}
+use Rattle.evp_expr.specs.declared.state.Frame.TheVariants as frame
+use Rattle.evp_expr.specs.declared.state.Mode.TheVariants as mode
 use Rattle.evp_expr.specs.Levels.{rank, level_of, levels}
 use Rattle.evp_expr.specs.Tree.{Tree, index, length_of, signed, joined}
 use Rattle.evp_expr.specs.Grammar.{Behind, Complete, BehindPath, Front, operand, behind, no_more, more, complete}

@@ -6,19 +6,20 @@ use Rattle.evp_expr.specs.declared.operator.Level.TheVariants.{Disjunction, Conj
 use Rattle.evp_expr.specs.declared.token.Placed.{Placed}
 use Rattle.evp_expr.specs.declared.token.Token.{Token}
 use Rattle.evp_expr.specs.declared.token.Token.TheVariants as token
-use Rattle.evp_expr.specs.declared.parser.Pending.{Pending}
-use Rattle.evp_expr.specs.declared.parser.Frame.{Frame}
-use Rattle.evp_expr.specs.declared.parser.Frame.TheVariants as frame
-use Rattle.evp_expr.specs.declared.parser.Mode.TheVariants as mode
+use Rattle.evp_expr.specs.declared.state.Pending.{Pending}
+use Rattle.evp_expr.specs.declared.state.Frame.{Frame}
+use Rattle.evp_expr.specs.declared.state.Frame.TheVariants as frame
+use Rattle.evp_expr.specs.declared.state.Mode.TheVariants as mode
 use Rattle.evp_expr.specs.Levels.{rank, levels}
 use Rattle.evp_expr.specs.Tree.{Tree, index, length_of, signed, joined}
 use Rattle.evp_expr.specs.Grammar.{Behind, Unary, Front, behind, no_more, more, complete}
 use Rattle.evp_expr.specs.Lexing.{placed}
 use Rattle.evp_expr.specs.Steps.{State, state, above, joins, takes_more, is_close_paren, is_close_bracket, is_comma, after, settle}
-use Rattle.evp_expr.specs.Standing.{Ordered, Stands}
+use Rattle.evp_expr.specs.Standing.{Ordered}
 use Rattle.evp_expr.proofs.Completes.{Continues, Resumes, CompletesAt, Completes}
 use Rattle.evp_expr.proofs.Climbs.{from_unary, above-ordered}
 use Rattle.evp_expr.proofs.After.{levels-above, option_cases, Joins, joins_some, after_rung_none, after_rung_some}
+use Rattle.evp_expr.proofs.Running.{Stands}
 
 pub if_some : {A : Type 0} (b : Bool) (x s : A) → (elim b [ true ↦ Some x | false ↦ None ]) ≡ Some s → (b ≡ true) × (x ≡ s)
 if_some true x s e = (refl, cc)

@@ -4,9 +4,9 @@ use Rattle.evp_expr.specs.declared.operator.Level.{Level}
 use Rattle.evp_expr.specs.declared.operator.Level.TheVariants.{Disjunction, Conjunction, Comparison, Sum, Product}
 use Rattle.evp_expr.specs.declared.token.Placed.{Placed}
 use Rattle.evp_expr.specs.declared.token.Token.{Token}
-use Rattle.evp_expr.specs.declared.parser.Pending.{Pending}
-use Rattle.evp_expr.specs.declared.parser.Frame.{Frame}
-use Rattle.evp_expr.specs.declared.parser.Frame.TheVariants as frame
+use Rattle.evp_expr.specs.declared.state.Pending.{Pending}
+use Rattle.evp_expr.specs.declared.state.Frame.{Frame}
+use Rattle.evp_expr.specs.declared.state.Frame.TheVariants as frame
 use Rattle.evp_expr.specs.Levels.{rank}
 use Rattle.evp_expr.specs.Tree.{Tree}
 use Rattle.evp_expr.specs.Grammar.{Chain, Unary, operand, chain}

@@ -4,11 +4,11 @@ use Rattle.evp_expr.specs.declared.fault.ExprFault.{ExprFault}
 use Rattle.evp_expr.specs.declared.operator.Operator.{Operator}
 use Rattle.evp_expr.specs.declared.operator.Level.{Level}
 use Rattle.evp_expr.specs.declared.token.Token.{Token}
-use Rattle.evp_expr.specs.declared.parser.Pending.{Pending}
-use Rattle.evp_expr.specs.declared.parser.Frame.{Frame}
-use Rattle.evp_expr.specs.declared.parser.Frame.TheVariants as frame
-use Rattle.evp_expr.specs.declared.parser.Mode.{Mode}
-use Rattle.evp_expr.specs.declared.parser.Mode.TheVariants as mode
+use Rattle.evp_expr.specs.declared.state.Pending.{Pending}
+use Rattle.evp_expr.specs.declared.state.Frame.{Frame}
+use Rattle.evp_expr.specs.declared.state.Frame.TheVariants as frame
+use Rattle.evp_expr.specs.declared.state.Mode.{Mode}
+use Rattle.evp_expr.specs.declared.state.Mode.TheVariants as mode
 use Rattle.evp_expr.specs.Tree.{Tree}
 use Rattle.evp_expr.specs.Steps.{state, above, joins, after, settle}
 use Rattle.evp_expr.specs.Opening.{Answers}

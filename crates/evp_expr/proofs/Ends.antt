@@ -4,10 +4,10 @@ use Rattle.evp_expr.specs.declared.operator.Level.{Level}
 use Rattle.evp_expr.specs.declared.operator.Level.TheVariants.{Disjunction, Conjunction, Comparison, Sum, Product}
 use Rattle.evp_expr.specs.declared.token.Placed.{Placed}
 use Rattle.evp_expr.specs.declared.token.Token.TheVariants as token
-use Rattle.evp_expr.specs.declared.parser.Frame.{Frame}
-use Rattle.evp_expr.specs.declared.parser.Frame.TheVariants as frame
-use Rattle.evp_expr.specs.declared.parser.Mode.{Mode}
-use Rattle.evp_expr.specs.declared.parser.Mode.TheVariants as mode
+use Rattle.evp_expr.specs.declared.state.Frame.{Frame}
+use Rattle.evp_expr.specs.declared.state.Frame.TheVariants as frame
+use Rattle.evp_expr.specs.declared.state.Mode.{Mode}
+use Rattle.evp_expr.specs.declared.state.Mode.TheVariants as mode
 use Rattle.evp_expr.specs.Levels.{rank}
 use Rattle.evp_expr.specs.Tree.{Tree, number, name, field, index, length_of, same, signed, joined}
 use Rattle.evp_expr.specs.Lexing.{placed}

@@ -6,7 +6,8 @@ use Rattle.evp_expr.specs.declared.operator.Operator.TheVariants as operator
 use Rattle.evp_expr.specs.declared.operator.Sign.TheVariants as sign
 use Rattle.evp_expr.specs.Tree.{number, name, field, index, length_of, same, signed, joined}
 use Rattle.evp_expr.specs.Lexing.{tokens_of, Faulty}
-use Rattle.evp_expr.specs.Steps.{start, read_on, tree_at, Ending, Stopped}
+use Rattle.evp_expr.specs.Steps.{start}
+use Rattle.evp_expr.proofs.Running.{read_on, tree_at, Ending, Stopped}
 
 unfoldable ending : List ℕ → Ending
 ending text = read_on start (tokens_of text)

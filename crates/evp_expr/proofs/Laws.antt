@@ -10,9 +10,10 @@ use Rattle.evp_expr.specs.Lexing.{placed, is_blank, Lexeme, Whole, Missing, TooL
 use Rattle.evp_expr.specs.Grammar.{IsExpression, BeginsExpression, most_levels}
 use Rattle.evp_expr.specs.Parsing.{HasTree, HasFault, BeginsSome, StopsAt, IsUnexpected, IsDeep, IsCut, most_bytes}
 use Rattle.evp_expr.specs.Laws.{OneTree, TreeOrFault, OneFault, EachTextIsAnswered}
-use Rattle.evp_expr.specs.Steps.{State, run, start, finish, Ending, Reached, Stopped}
+use Rattle.evp_expr.specs.Steps.{State, start}
 use Rattle.evp_expr.proofs.Runs.{Reads, StopFault, run_reaches, run_stops, reached_tree, reached_cut, expression_finishes}
 use Rattle.evp_expr.proofs.After.{option_cases}
+use Rattle.evp_expr.proofs.Running.{run, finish, Ending, Reached, Stopped}
 
 ending_cases : (e : Ending) → ((s : State) × (e ≡ Reached s)) ⊎ ((f : ExprFault) × (e ≡ Stopped f))
 ending_cases (Reached s) = inl (s, refl)

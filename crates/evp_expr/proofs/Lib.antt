@@ -1,3 +1,4 @@
+mod Running
 mod Completes
 mod Climbs
 mod After
@@ -8,6 +9,8 @@ mod Ends
 mod Runs
 mod Closing
 mod Reading
+mod Grown
+mod Names
 pub mod Scans
 mod Decimals
 mod Laws

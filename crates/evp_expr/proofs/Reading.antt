@@ -1,22 +1,23 @@
 -- The answers of reading a list of tokens.
 use Rattle.std.proofs.Common.{◌≡◌, ℕ, ◌≤◌, Option, Some, None, IfSome, refl, List, [], ◌∷◌, inl, inr, Result, Ok, Err, sym, ◌∙◌, ap, arith}
 use Rattle.std.proofs.lemmas.Grind.{common_steps}
-use Rattle.evp_expr.specs.declared.parser.Mode.{Mode}
+use Rattle.evp_expr.specs.declared.state.Mode.{Mode}
 use Rattle.evp_expr.specs.declared.fault.ExprFault.{ExprFault}
 use Rattle.evp_expr.specs.declared.fault.ExprFault.TheVariants as fault
 use Rattle.evp_expr.specs.declared.token.Placed.{Placed}
-use Rattle.evp_expr.specs.declared.parser.Frame.{Frame}
+use Rattle.evp_expr.specs.declared.state.Frame.{Frame}
 use Rattle.evp_expr.specs.Levels.{levels}
 use Rattle.evp_expr.specs.Grammar.{most_levels}
 use Rattle.evp_expr.specs.Tree.{Tree}
 use Rattle.evp_expr.specs.Parsing.{ReadAnswers}
-use Rattle.evp_expr.specs.Steps.{State, step, finish, start, run, Stopped, step_at}
-use Rattle.evp_expr.specs.Standing.{Stands, StandsAt}
+use Rattle.evp_expr.specs.Steps.{State, start, step_at}
+use Rattle.evp_expr.specs.Standing.{StandsAt}
 use Rattle.evp_expr.specs.Opening.{Answers, FinalAnswers}
 use Rattle.evp_expr.specs.Sound.{IsSound}
 use Rattle.evp_expr.proofs.Sounds.{expression_sound}
 use Rattle.evp_expr.proofs.StepSound.{step_leads}
 use Rattle.evp_expr.proofs.Runs.{run_on, run_deep, run_refused, run_reaches, run_stops, reached_tree, reached_cut}
+use Rattle.evp_expr.proofs.Running.{step, finish, run, Stopped, Stands}
 
 -- the fault of a token is the fault of the tokens
 pub fault_read : (all rest : List Placed) (s : State) (p : Placed) (end : ℕ) (fs : List Frame) (ts : List Tree) (f : ExprFault) → Answers p.at (step s p) (Err f) fs ts → run start all ≡ run s (p ∷ rest) → ReadAnswers all end (Err f)

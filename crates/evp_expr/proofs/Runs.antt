@@ -10,14 +10,14 @@ use Rattle.evp_expr.specs.Levels.{levels}
 use Rattle.evp_expr.specs.Tree.{Tree}
 use Rattle.evp_expr.specs.Grammar.{Chain, Front, IsExpression, BeginsExpression, most_levels}
 use Rattle.evp_expr.specs.Parsing.{BeginsSome, IsUnexpected, IsDeep, IsCut}
-use Rattle.evp_expr.specs.Steps.{State, step, finish, start, run, Reached, Stopped}
-use Rattle.evp_expr.specs.Standing.{Stands}
+use Rattle.evp_expr.specs.Steps.{State, start}
 use Rattle.evp_expr.proofs.Completes.{Completes}
 use Rattle.evp_expr.proofs.Climbs.{whole_to_unary, whole_from_unary, above-ordered}
 use Rattle.evp_expr.proofs.After.{option_cases}
 use Rattle.evp_expr.proofs.StepCompletes.{step_completes}
 use Rattle.evp_expr.proofs.StepSound.{step_leads}
 use Rattle.evp_expr.proofs.Ends.{completable, finishes, finished}
+use Rattle.evp_expr.proofs.Running.{step, finish, run, Reached, Stopped, Stands}
 
 -- the state s stands for the tokens so far: what completes it completes them, and the other way round
 pub record Follows (before : List Placed) (s : State) : Type 0 where

@@ -4,10 +4,10 @@ use Rattle.evp_expr.specs.declared.operator.Sign.TheVariants as sign
 use Rattle.evp_expr.specs.declared.token.Placed.{Placed}
 use Rattle.evp_expr.specs.declared.token.Token.{Token}
 use Rattle.evp_expr.specs.declared.token.Token.TheVariants as token
-use Rattle.evp_expr.specs.declared.parser.Frame.{Frame}
-use Rattle.evp_expr.specs.declared.parser.Frame.TheVariants as frame
-use Rattle.evp_expr.specs.declared.parser.Mode.{Mode}
-use Rattle.evp_expr.specs.declared.parser.Mode.TheVariants as mode
+use Rattle.evp_expr.specs.declared.state.Frame.{Frame}
+use Rattle.evp_expr.specs.declared.state.Frame.TheVariants as frame
+use Rattle.evp_expr.specs.declared.state.Mode.{Mode}
+use Rattle.evp_expr.specs.declared.state.Mode.TheVariants as mode
 use Rattle.evp_expr.specs.Levels.{levels}
 use Rattle.evp_expr.specs.Tree.{Tree, number, name, field, same}
 use Rattle.evp_expr.specs.Grammar.{Unary, Atom, Path, BehindPath, Front, negated, denied, unsigned, literal, group, path, measured, compared, first, path_end, dotted, subscripted, len_word, same_word}

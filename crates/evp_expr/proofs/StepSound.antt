@@ -8,19 +8,20 @@ use Rattle.evp_expr.specs.declared.operator.Level.TheVariants.{Disjunction}
 use Rattle.evp_expr.specs.declared.token.Placed.{Placed}
 use Rattle.evp_expr.specs.declared.token.Token.{Token}
 use Rattle.evp_expr.specs.declared.token.Token.TheVariants as token
-use Rattle.evp_expr.specs.declared.parser.Frame.{Frame}
-use Rattle.evp_expr.specs.declared.parser.Frame.TheVariants as frame
-use Rattle.evp_expr.specs.declared.parser.Mode.{Mode}
-use Rattle.evp_expr.specs.declared.parser.Mode.TheVariants as mode
+use Rattle.evp_expr.specs.declared.state.Frame.{Frame}
+use Rattle.evp_expr.specs.declared.state.Frame.TheVariants as frame
+use Rattle.evp_expr.specs.declared.state.Mode.{Mode}
+use Rattle.evp_expr.specs.declared.state.Mode.TheVariants as mode
 use Rattle.evp_expr.specs.Levels.{levels}
 use Rattle.evp_expr.specs.Tree.{Tree, number, name, length_of, same, signed}
 use Rattle.evp_expr.specs.Grammar.{Chain, Unary, Atom, Path, BehindPath, Front, negated, denied, unsigned, literal, group, path, measured, compared, first, path_end, dotted, subscripted, len_word, same_word}
 use Rattle.evp_expr.specs.Lexing.{placed}
 use Rattle.evp_expr.specs.Steps.{State, state, begins, extends, follows_name, begins_path, names_field, gives_text, ends_same, step_at}
-use Rattle.evp_expr.specs.Standing.{Ordered, StandsAt, Stands}
+use Rattle.evp_expr.specs.Standing.{Ordered, StandsAt}
 use Rattle.evp_expr.proofs.Completes.{Continues, Resumes, CompletesAt, Completes}
 use Rattle.evp_expr.proofs.Climbs.{whole_from_unary, above-ordered}
 use Rattle.evp_expr.proofs.AfterSound.{Leads, after_leads}
+use Rattle.evp_expr.proofs.Running.{Stands}
 
 -- a state that can be reached, from which the grammar leads back
 pub record LeadsOn (s : State) (m : Mode) (fs : List Frame) (trees : List Tree) (at : ℕ) (tok : Token) : Type 0 where

@@ -11,3 +11,4 @@ pub mod Opening
 pub mod Scanning
 pub mod Printing
 pub mod Laws
+pub mod FaultText

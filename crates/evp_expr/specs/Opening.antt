@@ -2,8 +2,8 @@
 use Rattle.std.specs.Prelude.{◌≡◌, ℕ, ◌<◌, List, [], ◌∷◌, Option, Some, None, Result, Ok, Err}
 use Rattle.evp_expr.specs.declared.fault.ExprFault.{ExprFault}
 use Rattle.evp_expr.specs.declared.fault.ExprFault.TheVariants as fault
-use Rattle.evp_expr.specs.declared.parser.Frame.{Frame}
-use Rattle.evp_expr.specs.declared.parser.Mode.{Mode}
+use Rattle.evp_expr.specs.declared.state.Frame.{Frame}
+use Rattle.evp_expr.specs.declared.state.Mode.{Mode}
 use Rattle.evp_expr.specs.Levels.{levels}
 use Rattle.evp_expr.specs.Tree.{Tree}
 use Rattle.evp_expr.specs.Nodes.{last_tree}

@@ -1,5 +1,6 @@
 -- What looking for tokens answers.
-use Rattle.std.specs.Prelude.{◌≡◌, ℕ, Result, Ok, Err}
+use Rattle.std.specs.Prelude.{◌≡◌, ℕ, true, List, [], ◌∷◌, Result, Ok, Err}
+use Rattle.evp_base.specs.Name.{begins_name}
 use Rattle.std.specs.declared.collections.VecDeque.{VecDeque}
 use Rattle.evp_expr.specs.declared.fault.ExprFault.{ExprFault}
 use Rattle.evp_expr.specs.declared.fault.ExprFault.TheVariants as fault
@@ -22,3 +23,8 @@ ScanAnswers scanned (Err (fault.Token a)) = scanned ≡ Faulty (fault.Token a)
 ScanAnswers scanned (Err (fault.Literal a)) = scanned ≡ Faulty (fault.Literal a)
 ScanAnswers scanned (Err fault.Memory) = Unit {0}
 ScanAnswers scanned (Err _) = ⊥
+
+-- the first byte may begin a name
+abbrev pub BeginsName : List ℕ → Type 0
+BeginsName [] = ⊥
+BeginsName (first ∷ others) = begins_name first ≡ true

@@ -1,14 +1,13 @@
 -- The states that reading can reach: their frames stand in order, and each has its trees.
 use Rattle.std.specs.Prelude.{◌≡◌, ℕ, ◌<◌, List, [], ◌∷◌, Option, Some, None}
-use Rattle.evp_expr.specs.declared.parser.Frame.{Frame}
-use Rattle.evp_expr.specs.declared.parser.Frame.TheVariants as frame
-use Rattle.evp_expr.specs.declared.parser.Mode.{Mode}
-use Rattle.evp_expr.specs.declared.parser.Mode.TheVariants as mode
+use Rattle.evp_expr.specs.declared.state.Frame.{Frame}
+use Rattle.evp_expr.specs.declared.state.Frame.TheVariants as frame
+use Rattle.evp_expr.specs.declared.state.Mode.{Mode}
+use Rattle.evp_expr.specs.declared.state.Mode.TheVariants as mode
 use Rattle.evp_expr.specs.Levels.{rank}
-use Rattle.evp_expr.specs.declared.parser.Pending.{Pending}
+use Rattle.evp_expr.specs.declared.state.Pending.{Pending}
 use Rattle.evp_expr.specs.Nodes.{HasTwo}
 use Rattle.evp_expr.specs.Tree.{Tree}
-use Rattle.evp_expr.specs.Steps.{State}
 
 -- The rungs stand in order: on top of the frames rungs of a rank below n alone, each looser than the one
 -- before, up to a bracket; signs stand on a whole ladder alone. And each pending operator has its left tree.
@@ -40,9 +39,6 @@ StandsAt mode.TextOfSame (frame.Same ∷ fs) (p ∷ trees) = Ordered 5 fs trees
 StandsAt mode.TextOfSame _ _ = ⊥
 StandsAt (mode.EndOfSame text) (frame.Same ∷ fs) (p ∷ trees) = Ordered 5 fs trees
 StandsAt (mode.EndOfSame text) _ _ = ⊥
-
-abbrev pub Stands : State → Type 0
-Stands s = StandsAt s.mode s.frames s.trees
 
 -- an operand stands ready behind these frames
 abbrev pub HasOperand : List Frame → List Tree → Type 0

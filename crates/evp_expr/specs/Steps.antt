@@ -1,27 +1,23 @@
 -- One step of reading from left to right: what is open and which trees stand ready, token by token.
-use Rattle.std.specs.Prelude.{ℕ, List, [], ◌∷◌, Bool, true, false, ◌&&◌, nat_eq, nat_lt, Option, Some, None}
+use Rattle.std.specs.Prelude.{ℕ, List, [], ◌∷◌, Bool, true, false, ◌&&◌, nat_eq, Option, Some, None}
 use Rattle.std.specs.Str.{bytes_eq}
 use Rattle.evp_expr.specs.declared.operator.Operator.{Operator}
 use Rattle.evp_expr.specs.declared.operator.Operator.TheVariants.{Subtract}
 use Rattle.evp_expr.specs.declared.operator.Sign.TheVariants as sign
 use Rattle.evp_expr.specs.declared.operator.Level.{Level}
 use Rattle.evp_expr.specs.declared.operator.Level.TheVariants.{Disjunction, Conjunction, Comparison, Sum, Product}
-use Rattle.evp_expr.specs.declared.token.Placed.{Placed}
 use Rattle.evp_expr.specs.declared.token.Token.{Token}
 use Rattle.evp_expr.specs.declared.token.Token.TheVariants as token
 use Rattle.evp_expr.specs.declared.node.Node.TheVariants as node
-use Rattle.evp_expr.specs.declared.fault.ExprFault.{ExprFault}
-use Rattle.evp_expr.specs.declared.fault.ExprFault.TheVariants as fault
-use Rattle.evp_expr.specs.declared.parser.Pending.{Pending}
-use Rattle.evp_expr.specs.declared.parser.Frame.{Frame}
-use Rattle.evp_expr.specs.declared.parser.Frame.TheVariants as frame
-use Rattle.evp_expr.specs.declared.parser.Mode.{Mode}
-use Rattle.evp_expr.specs.declared.parser.Mode.TheVariants as mode
-use Rattle.evp_expr.specs.Levels.{level_of, rank, levels}
+use Rattle.evp_expr.specs.declared.state.Pending.{Pending}
+use Rattle.evp_expr.specs.declared.state.Frame.{Frame}
+use Rattle.evp_expr.specs.declared.state.Frame.TheVariants as frame
+use Rattle.evp_expr.specs.declared.state.Mode.{Mode}
+use Rattle.evp_expr.specs.declared.state.Mode.TheVariants as mode
+use Rattle.evp_expr.specs.Levels.{level_of, rank}
 use Rattle.evp_expr.specs.Nodes.{grow}
 use Rattle.evp_expr.specs.Tree.{Tree, number, name}
-use Rattle.evp_expr.specs.Lexing.{Scan, Tokens, Faulty}
-use Rattle.evp_expr.specs.Grammar.{len_word, same_word, most_levels}
+use Rattle.evp_expr.specs.Grammar.{len_word, same_word}
 
 -- what is read next, what is open, the innermost first, and the trees ready, the last first
 pub record State : Type 0 where
@@ -153,9 +149,6 @@ step_at mode.AfterOperand fs ts at t = after at t fs ts
 step_at mode.TextOfSame fs ts at t = gives_text t fs ts
 step_at (mode.EndOfSame text) fs ts at t = ends_same text t fs ts
 
-abbrev pub step : State → Placed → Option State
-step s p = step_at s.mode s.frames s.trees p.at p.token
-
 -- the tree of the whole where the text ends behind an operand
 abbrev pub close_all : List Frame → List Tree → Option Tree
 close_all [] (t ∷ []) = Some t
@@ -170,31 +163,5 @@ finish_at mode.AfterPath fs ts = close_all fs ts
 finish_at mode.AfterOperand fs ts = close_all fs ts
 finish_at _ fs ts = None
 
-abbrev pub finish : State → Option Tree
-finish s = finish_at s.mode s.frames s.trees
-
 abbrev pub start : State
 start = state mode.Operand (rungs []) []
-
--- where reading some tokens ends: in a state, or at the first token that is unexpected or too deep
-pub data Ending : Type 0 where
-  Reached : State → Ending
-  Stopped : ExprFault → Ending
-
-abbrev pub run : State → List Placed → Ending
-run s [] = Reached s
-run s (p ∷ others) =
-    elim (step s p) [
-      | Some n ↦ elim (nat_lt most_levels (levels n.frames)) [ true ↦ Stopped (fault.Deep p.at) | false ↦ run n others ]
-      | None ↦ Stopped (fault.Unexpected p.at)
-    ]
-
--- reading what was scanned
-abbrev pub read_on : State → Scan → Ending
-read_on s (Tokens tokens) = run s tokens
-read_on s (Faulty f) = Stopped f
-
--- the tree where the tokens end in a state
-abbrev pub tree_at : Ending → Option Tree
-tree_at (Reached s) = finish s
-tree_at (Stopped f) = None

@@ -1,6 +1,10 @@
 //! Expressions that have been read.
 
+ghost use Rattle.std.specs.Prelude.{◌≡◌, IfOk};
+
 use crate::node::Node;
+use evp_base::Memory;
+use std::alloc::Global;
 use std::marker::Model;
 
 /// An expression. Contracts see its tree, with the places of its names, of each `[` and of its operators.
@@ -25,7 +29,7 @@ impl Model for Expr {
 }
 
 impl Expr {
-    ghost use Rattle.std.specs.Prelude.{◌≡◌};
+    ghost use Rattle.std.specs.Prelude.{◌≡◌, IfOk};
     ghost use Rattle.evp_expr.specs.Nodes.{nodes_of, tree_of};
     ghost use Rattle.evp_expr.specs.Sound.{IsSound};
 
@@ -45,4 +49,24 @@ impl Expr {
     {
         self.nodes.as_slice()
     }
+
+    /// An equal expression.
+    pub fn copy(&self, alloc: Global) -> Result<Expr, Memory>
+        ensures { IfOk result (λ copied. copied ≡ self.now) }
+    {
+        let kept = &self.nodes;
+        let nodes = copied_nodes(alloc, kept.as_slice())?;
+        Ok(Expr { nodes })
+    }
+}
+
+// The same nodes.
+fn copied_nodes(alloc: Global, nodes: &[Node]) -> Result<Vec<Node>, Memory>
+    ensures { IfOk result (λ copied. copied.items ≡ nodes.now) }
+{
+    let mut copied = Vec::with_capacity(alloc, nodes.len())?;
+    for node in nodes {
+        copied.push(node.copy(alloc)?)?;
+    }
+    Ok(copied)
 }

@@ -2,7 +2,7 @@
 
 use crate::fault::ExprFault;
 use crate::operator::Level;
-use crate::parser::{Frame, Pending};
+use crate::state::{Frame, Pending};
 use std::alloc::Global;
 use std::marker::Model;
 
@@ -18,7 +18,7 @@ pub struct Frames {
 
 impl Model for Frames {
     ghost use Rattle.std.specs.Prelude.{◌≡◌, ◌≤◌, List, reverse};
-    ghost use Rattle.evp_expr.specs.declared.parser.Frame.{Frame};
+    ghost use Rattle.evp_expr.specs.declared.state.Frame.{Frame};
 
     ghost Value = { List Frame };
 
@@ -31,7 +31,7 @@ impl Model for Frames {
 
 impl Frames {
     ghost use Rattle.std.specs.Prelude.{◌≡◌, ◌≤◌, ◌<◌, [], ◌∷◌, OnOk, MatchOption, true, None};
-    ghost use Rattle.evp_expr.specs.declared.parser.Frame.TheVariants.{Rung};
+    ghost use Rattle.evp_expr.specs.declared.state.Frame.TheVariants.{Rung};
     ghost use Rattle.evp_expr.specs.Levels.{levels, opens_level};
     ghost use Rattle.evp_expr.specs.Steps.{above};
     ghost use Rattle.evp_expr.specs.Opening.{OpeningFault, MemoryAlone};

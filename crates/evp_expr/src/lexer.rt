@@ -3,40 +3,24 @@ ghost use Rattle.std.specs.Prelude.{◌≡◌, ◌+◌, ◌-◌, ◌*◌, ◌^�
 ghost use Rattle.std.specs.List.{prefix_len};
 ghost use Rattle.evp_base.specs.Name.{begins_name, continues_name, is_digit};
 ghost use Rattle.evp_expr.specs.Lexing.{is_blank, is_plain, symbol_of, double_of, decimal_from, word, numeral, quoted, symbol, short_symbol, lexeme, tokens_of};
-ghost use Rattle.evp_expr.specs.Scanning.{LexAnswers, ScanAnswers};
+ghost use Rattle.evp_expr.specs.Scanning.{BeginsName, LexAnswers, ScanAnswers};
 
 use crate::fault::ExprFault;
 use crate::operator::Operator;
+use crate::quoted_text::QuotedText;
 use crate::token::{Placed, Token};
-use crate::word::Word;
+use evp_base::{Name, begins_name, continues_name};
 use std::alloc::Global;
 use std::collections::VecDeque;
 
-/// The bytes that a name may have.
-const MAX_NAME: usize = 64;
-
 /// The largest number of a text.
 const MAX_NUMBER: u128 = 170_141_183_460_469_231_731_687_303_715_884_105_727;
-
-/// Whether a byte may begin a name: a letter or `_`.
-fn begins_name(byte: u8) -> bool
-    ensures { result ≡ begins_name byte }
-{
-    (b'A' <= byte && byte <= b'Z') || (b'a' <= byte && byte <= b'z') || byte == b'_'
-}
 
 /// Whether a byte is a decimal digit.
 fn is_digit(byte: u8) -> bool
     ensures { result ≡ is_digit byte }
 {
     b'0' <= byte && byte <= b'9'
-}
-
-/// Whether a byte may stand behind the first of a name.
-fn continues_name(byte: u8) -> bool
-    ensures { result ≡ continues_name byte }
-{
-    begins_name(byte) || is_digit(byte)
 }
 
 /// Whether a byte is a space or a tab.
@@ -140,15 +124,15 @@ fn decimal(digits: &[u8]) -> Option<i128>
 }
 
 /// The name at the front.
-fn name(alloc: Global, bytes: &[u8], at: u32) -> Result<(Token, usize), ExprFault>
+fn name(bytes: &[u8], at: u32) -> Result<(Token, usize), ExprFault>
+    requires { BeginsName bytes.now }
     ensures { LexAnswers at (word (prefix_len continues_name bytes.now) bytes.now) result }
 {
     let length = name_length(bytes);
-    if length > MAX_NAME {
-        return Err(ExprFault::Token(at));
+    match Name::read(&bytes[..length]) {
+        Some(name) => Ok((Token::Name(name), length)),
+        None => Err(ExprFault::Token(at)),
     }
-    let name = Word::copy(alloc, &bytes[..length])?;
-    Ok((Token::Name(name), length))
 }
 
 /// The number at the front.
@@ -170,7 +154,7 @@ fn text(alloc: Global, bytes: &[u8], at: u32) -> Result<(Token, usize), ExprFaul
     if length >= bytes.len() || bytes[length] != b'"' {
         return Err(ExprFault::Token(at));
     }
-    let text = Word::copy(alloc, &bytes[..length])?;
+    let text = QuotedText::read(alloc, &bytes[..length])?;
     Ok((Token::Text(text), length + 2))
 }
 
@@ -197,7 +181,7 @@ fn lexeme(alloc: Global, bytes: &[u8], at: u32) -> Result<(Token, usize), ExprFa
         return Err(ExprFault::Token(at));
     };
     if begins_name(*first) {
-        return name(alloc, bytes, at);
+        return name(bytes, at);
     }
     if is_digit(*first) {
         return number(bytes, at);

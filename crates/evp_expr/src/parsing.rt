@@ -6,7 +6,7 @@ ghost use Rattle.evp_expr.specs.Parsing.{HasTree, HasFault};
 use crate::expr::Expr;
 use crate::fault::ExprFault;
 use crate::lexer::tokens;
-use crate::reader::read;
+use crate::parser::read;
 use std::alloc::Global;
 
 /// The bytes that a text may have.

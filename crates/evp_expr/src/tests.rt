@@ -1,11 +1,11 @@
 //! Worked texts: trees, and each fault at its edge.
 
-use crate::{ExprFault, Node, Word, parse};
+use crate::{ExprFault, Node, parse};
 use std::alloc::{AllocError, Global};
 use std::str;
 
 /// A word as text.
-fn shown(word: &Word) -> &str {
+fn shown(word: &Name) -> &str {
     str::from_utf8(word.as_bytes()).unwrap_or("?")
 }
 
@@ -13,12 +13,19 @@ fn shown(word: &Word) -> &str {
 fn shown_node(alloc: Global, node: &Node) -> Result<String, AllocError> {
     match node {
         Node::Number(number) => format!(in alloc; "{number}"),
-        Node::Name(at, name) => format!(in alloc; "{}@{at}", shown(name)),
-        Node::Field(at, name) => format!(in alloc; ".{}@{at}", shown(name)),
-        Node::Index(at) => format!(in alloc; "[]@{at}"),
+        Node::Name(at, name) => format!(in alloc; "{name}@{at}"),
+        Node::Field(at, name) => format!(in alloc; ".{name}@{at}"),
+        Node::Open(at) => format!(in alloc; "[@{at}"),
+        Node::Index(at) => format!(in alloc; "]@{at}"),
         Node::Length => format!(in alloc; "len"),
-        Node::Same(text) => format!(in alloc; "same \"{}\"", shown(text)),
+        Node::Same(text) => {
+            format!(in alloc;
+                "same \"{}\"",
+                str::from_utf8(text.as_bytes()).unwrap_or("?")
+            )
+        }
         Node::Signed(at, sign) => format!(in alloc; "{sign:?}@{at}"),
+        Node::Shortcut(operator, count) => format!(in alloc; "{operator:?}+{count}"),
         Node::Joined(at, operator) => format!(in alloc; "{operator:?}@{at}"),
     }
 }
@@ -43,15 +50,15 @@ fn texts_have_their_trees_and_faults(rt: HostRuntime) -> Result<(), AllocError> 
     let cases = [
         ("-7/2", "7 Negate@0 2 Divide@2 "),
         ("-7%2", "7 Negate@0 2 Remainder@2 "),
-        ("0 && 1/0", "0 1 0 Divide@6 And@2 "),
+        ("0 && 1/0", "0 And+3 1 0 Divide@6 And@2 "),
         (
             "a-b*c-d",
             "a@0 b@2 c@4 Multiply@3 Subtract@1 d@6 Subtract@5 ",
         ),
         ("a%b*c", "a@0 b@2 Remainder@1 c@4 Multiply@3 "),
-        ("a||b&&!c", "a@0 b@3 c@7 Not@6 And@4 Or@1 "),
+        ("a||b&&!c", "a@0 Or+5 b@3 And+2 c@7 Not@6 And@4 Or@1 "),
         ("(1+2)\t*3", "1 2 Add@2 3 Multiply@6 "),
-        ("a.b[1].c", "a@0 .b@2 1 []@3 .c@7 "),
+        ("a.b[1].c", "a@0 .b@2 [@3 1 ]@3 .c@7 "),
         ("len(x)", "x@4 len "),
         ("len", "len@0 "),
         ("len.len + same", "len@0 .len@4 same@10 Add@8 "),

@@ -1,17 +1,18 @@
 //! The tokens of an expression's text.
 
 use crate::operator::Operator;
-use crate::word::Word;
+use crate::quoted_text::QuotedText;
+use evp_base::Name;
 
 /// A token.
 #[derive(Debug, Drop)]
 pub enum Token {
     /// A name of up to 64 bytes.
-    Name(Word),
+    Name(Name),
     /// Decimal digits: a number from 0 to 2^127 - 1.
     Number(i128),
     /// A text, without its quotes.
-    Text(Word),
+    Text(QuotedText),
     /// An operator between two operands; `-` also stands before one.
     Operator(Operator),
     /// `!`

@@ -1,12 +1,18 @@
-use Rattle.std.proofs.Common.{◌≡◌, [], sym, subst}
-use Rattle.evp_expr.specs.Nodes.{grown, grown-append, nodes_of_all, nodes_of_all-push, CanGrow}
+use Rattle.std.proofs.Common.{◌≡◌, [], reverse, sym, ◌∙◌, ap}
+use Rattle.evp_expr.specs.Nodes.{grow, grown, nodes_of_all, starts_of}
+use Rattle.evp_expr.proofs.Grown.{grown-nodes_of_all}
 use Rattle.evp_expr.proofs.trees.Trees.push.Goals as goal
 
-pub returns-clause-pushed : goal.returns-clause-pushed
-returns-clause-pushed c =
-    rw (c.in_ok-push.ensures.items, ← c.self.view_is) (grown-append c.self.inside.nodes.items c.args.node [])
+pub invariant_of-self : goal.invariant_of-self
+invariant_of-self c =
+    let trees = grow c.args.node (grown c.self.inside.nodes.items []) in
+    let nodes : c.put.new.nodes.items ≡ nodes_of_all trees = c.in-Ok.ensures.nodes in
+    let starts : reverse c.put.new.starts.items ≡ starts_of trees = c.in-Ok.ensures.starts in
+    let back : trees ≡ grown c.put.new.nodes.items [] = sym (ap (λ x. grown x []) nodes ∙ grown-nodes_of_all trees) in
+    (nodes ∙ ap nodes_of_all back, starts ∙ ap starts_of back)
 
-pub invariant_of-self-2 : goal.invariant_of-self-2
-invariant_of-self-2 c =
-    let can = subst (λ x. CanGrow c.args.node x) (sym c.self.view_is) c.requires in
-    subst (λ x. x ≡ nodes_of_all (grown x [])) (sym c.in_ok-push.ensures.items) (nodes_of_all-push c.self.inside.nodes.items c.args.node c.self.invariant can)
+pub returns-in-Ok-clause-pushed : goal.returns-in-Ok-clause-pushed
+returns-in-Ok-clause-pushed c =
+    let trees = grow c.args.node (grown c.self.inside.nodes.items []) in
+    let nodes : c.put.new.nodes.items ≡ nodes_of_all trees = c.in-Ok.ensures.nodes in
+    rw (← c.self.view_is) (ap (λ x. grown x []) nodes ∙ grown-nodes_of_all trees)

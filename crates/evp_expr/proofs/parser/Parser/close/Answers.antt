@@ -1,7 +1,7 @@
 use Rattle.std.proofs.Common.{◌∷◌, refl, sym, ◌∙◌, ap}
-use Rattle.evp_expr.specs.declared.parser.Frame.TheVariants.{Rung}
+use Rattle.evp_expr.specs.declared.state.Frame.TheVariants.{Rung}
 use Rattle.evp_expr.proofs.Closing.{answers_join, answers_leave, nothing_open}
-use Rattle.evp_expr.proofs.reader.Reader.close.Goals as goal
+use Rattle.evp_expr.proofs.parser.Parser.close.Goals as goal
 
 pub returns-in-Some-joining : goal.returns-in-Some-joining
 returns-in-Some-joining c =

@@ -1,7 +1,7 @@
 use Rattle.std.proofs.Common.{◌≡◌, length}
 use Rattle.evp_expr.specs.Steps.{close_all}
 use Rattle.evp_expr.specs.Standing.{HasOperand}
-use Rattle.evp_expr.proofs.reader.Reader.close_all.Given as goal
+use Rattle.evp_expr.proofs.parser.Parser.close_all.Given as goal
 
 -- what is left to close has the same tree, and an operand stands ready
 abbrev pub invariant-loop-frame : goal.invariant-loop-frame

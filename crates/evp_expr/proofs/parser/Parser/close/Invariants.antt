@@ -1,7 +1,7 @@
 use Rattle.std.proofs.Common.{◌≡◌, length}
 use Rattle.evp_expr.specs.Standing.{HasOperand}
 use Rattle.evp_expr.specs.Steps.{after}
-use Rattle.evp_expr.proofs.reader.Reader.close.Given as goal
+use Rattle.evp_expr.proofs.parser.Parser.close.Given as goal
 
 -- what is left to close leads to the same state, and an operand stands ready
 abbrev pub invariant-loop-frame : goal.invariant-loop-frame

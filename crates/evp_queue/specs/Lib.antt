@@ -1,0 +1,4 @@
+pub mod Counts
+pub mod Flow
+pub mod Rule
+pub mod Passes

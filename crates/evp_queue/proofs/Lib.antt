@@ -1,3 +1,4 @@
+pub mod Examples
 pub mod Counts
 pub mod Flows
 pub mod Passes

@@ -7,6 +7,7 @@ pub mod DescribedFormats
 mod DescriptionExamples
 pub mod Descriptions
 mod Examples
+pub mod LeadFacts
 pub mod Lists
 pub mod Paths
 pub mod Texts

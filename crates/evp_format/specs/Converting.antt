@@ -9,6 +9,7 @@ use Rattle.evp_format.specs.declared.place.PlaceStep.{PlaceStep}
 use Rattle.evp_format.specs.declared.place.PlaceStep.TheVariants.{At, Nth}
 use Rattle.evp_format.specs.Bytes.{next_block}
 use Rattle.evp_format.specs.Datum.{Datum, num, null, text, list, rec, Elements, empty_list, element, Entries, empty_record, entry, count_of, copies, named}
+pub use Rattle.evp_format.specs.Datum.{as_number, elements_of, entries_of}
 use Rattle.evp_format.specs.Layout.{Layout}
 use Rattle.evp_format.specs.Tree.{Tree, tree, Branches, no_fields, branch, Part, number_part, text_part, tree_part, length_of, root_of}
 use Rattle.evp_format.specs.Zero.{zero_part}
@@ -91,23 +92,6 @@ make_text limit place (Some (rec entries)) size = made null size
 abbrev pub make_number : Bool → List PlaceStep → ℤ → ℕ → Made Datum
 make_number fits place n size = unless_unfit (not fits) place (λ _. made (num n) size)
 
--- the entries of a partner record; none where there is none
-abbrev pub entries_of : Option Datum → Entries
-entries_of (Some (rec entries)) = entries
-entries_of (Some (num n)) = empty_record
-entries_of (Some null) = empty_record
-entries_of (Some (text bytes)) = empty_record
-entries_of (Some (list elements)) = empty_record
-entries_of None = empty_record
-
--- the number of an element; a partner of this class always is one
-abbrev pub as_number : Datum → ℤ
-as_number (num n) = n
-as_number null = pos 0
-as_number (text bytes) = pos 0
-as_number (list elements) = pos 0
-as_number (rec entries) = pos 0
-
 -- elements k, k + 1 and so on, `one` making each at its index from the partner's
 abbrev pub make_elements : (ℕ → Datum → ℕ → Made Datum) → Elements → ℕ → ℕ → Made Elements
 make_elements one empty_list k size = made empty_list size
@@ -137,15 +121,6 @@ make_list limit field place (negsuc n) partners zero_element one size = unfit pl
 make_list limit field place (pos n) partners zero_element one size =
     unless_unfit (has_other_length n partners) place
     (λ _. list_block field.shape limit field.size place n size (λ after. make_or_zero one zero_element n partners after))
-
--- the partner's list
-abbrev pub elements_of : Option Datum → Option Elements
-elements_of (Some (list elements)) = Some elements
-elements_of (Some (num n)) = None
-elements_of (Some null) = None
-elements_of (Some (text bytes)) = None
-elements_of (Some (rec entries)) = None
-elements_of None = None
 
 -- a field that is no array: its number stands ready; a text or a record is made from its partner
 abbrev pub make_single : ℕ → Part → List PlaceStep → ℤ → Option Datum → (Datum → ℕ → Made Datum) → ℕ → Made Datum

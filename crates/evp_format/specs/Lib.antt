@@ -1,4 +1,5 @@
 pub mod Bytes
+pub mod Class
 pub mod Clashing
 pub mod Conversion
 pub mod Converting
@@ -11,6 +12,7 @@ pub mod Equality
 pub mod LaidTree
 pub mod Laws
 pub mod Layout
+pub mod Leads
 pub mod Packing
 pub mod Path
 pub mod Reading

@@ -59,6 +59,10 @@ tree_of layout type_number = get_or (trees layout.types) type_number empty_tree
 abbrev pub root_of : Layout → Tree
 root_of layout = tree_of layout (length layout.types - 1)
 
+-- what a field, or each of its elements, is
+abbrev pub part_in : Layout → Field → Part
+part_in layout field = part_of (trees layout.types) field.base
+
 -- the bytes of a record's fixed part
 abbrev pub length_of : Tree → ℕ
 length_of (tree length _) = length

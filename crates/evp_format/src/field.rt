@@ -46,6 +46,24 @@ pub struct Field {
     pub fallback: i128,
 }
 
+impl Field {
+    ghost use Rattle.std.specs.Prelude.{◌<◌, ◌^◌, ◌-◌, ◌+◌};
+    ghost use Rattle.evp_format.specs.WellLaid.{extent};
+
+    /// Bytes that the field takes inside its record, where a pointer has this many: those of a
+    /// pointer for a counted array.
+    pub fn extent(&self, pointer: u8) -> u64
+        ensures value { result ≡ extent pointer self.now }
+        ensures bound { result < 2 ^ 64 - 2 ^ 33 + 2 }
+    {
+        match self.shape {
+            Shape::One => u64::from(self.size),
+            Shape::Fixed(count) => u64::from(count) * u64::from(self.size),
+            Shape::Counted(_) => u64::from(pointer),
+        }
+    }
+}
+
 impl PartialEq for Field {
     ghost eq = { field_eq };
 

@@ -1,8 +1,11 @@
 //! Formats.
-ghost use Rattle.std.specs.Prelude.{◌≡◌, IfOk};
+ghost use Rattle.std.specs.Prelude.{◌≡◌, ◌-◌, ◌<◌, IfOk, IsSome, Some, length, slice_get};
+ghost use Rattle.evp_format.specs.Class.{field_at};
 ghost use Rattle.evp_format.specs.Equality.{order_eq};
+ghost use Rattle.evp_format.specs.Leads.{leads_of};
 
-use crate::RecordType;
+use crate::leads::{Leads, leads_of_types};
+use crate::{Field, Lead, RecordType};
 use evp_base::{Memory, Order};
 use std::alloc::Global;
 use std::marker::Model;
@@ -15,6 +18,8 @@ pub struct Format {
     order: Order,
     pointer: u8,
     types: Vec<RecordType>,
+    // Of each type its fields that have or lead to a pointer.
+    leads: Vec<Leads>,
 }
 
 impl Model for Format {
@@ -24,25 +29,36 @@ impl Model for Format {
 
     ghost view = { λ f. record { order = f.order; pointer = f.pointer; types = f.types.items } };
 
+    ghost use Rattle.std.specs.Prelude.{◌≡◌};
+    ghost use Rattle.evp_format.specs.Leads.{all_leads};
     ghost use Rattle.evp_format.specs.WellLaid.{IsWellLaid};
 
-    ghost invariant = { λ f. IsWellLaid (record { order = f.order; pointer = f.pointer; types = f.types.items }) };
+    ghost invariant = { λ f. IsWellLaid (record { order = f.order; pointer = f.pointer; types = f.types.items })
+        × (f.leads.items ≡ all_leads f.types.items) };
 }
 
 impl Format {
     ghost use Rattle.evp_format.specs.Layout.{layout_with};
     ghost use Rattle.evp_format.specs.WellLaid.{IsWellLaid};
 
-    /// The format of these parts, which are well laid. Takes no memory.
-    pub fn new(order: Order, pointer: u8, types: Vec<RecordType>) -> Self
+    /// The format of these parts, which are well laid. `Memory` where what it keeps of each type
+    /// beside its fields could not be stored.
+    pub fn new(
+        alloc: Global,
+        order: Order,
+        pointer: u8,
+        types: Vec<RecordType>,
+    ) -> Result<Self, Memory>
         requires { IsWellLaid (layout_with order pointer types.items) }
-        ensures { result ≡ layout_with order pointer types.items }
+        ensures { IfOk result (λ made. made ≡ layout_with order pointer types.items) }
     {
-        Format {
+        let leads = leads_of_types(alloc, types.as_slice())?;
+        Ok(Format {
             order,
             pointer,
             types,
-        }
+            leads,
+        })
     }
 
     /// The order of a number's bytes.
@@ -67,16 +83,47 @@ impl Format {
         self.types.as_slice()
     }
 
+    /// The record: the last type.
+    pub fn root(&self) -> &RecordType
+        ensures value { slice_get self.now.types (length self.now.types - 1) ≡ Some result.now }
+        ensures laid { IsWellLaid self.now }
+    {
+        &self.types[self.types.len() - 1]
+    }
+
+    /// The record type of this number.
+    pub fn record_type(&self, type_number: u16) -> &RecordType
+        requires { type_number < length self.now.types }
+        ensures value { slice_get self.now.types type_number ≡ Some result.now }
+        ensures laid { IsWellLaid self.now }
+    {
+        &self.types[usize::from(type_number)]
+    }
+
+    /// The field of this number of the type of that number.
+    pub fn field(&self, type_number: u16, number: u16) -> &Field
+        requires { IsSome (field_at self.now type_number number) }
+        ensures value { field_at self.now type_number number ≡ Some result.now }
+        ensures laid { IsWellLaid self.now }
+    {
+        &self.types[usize::from(type_number)].fields.as_slice()[usize::from(number)]
+    }
+
+    /// The fields of the type of this number that have a pointer or lead to one, as listed: what
+    /// else than the length can fail in a record of it.
+    pub fn leads(&self, type_number: u16) -> &[Lead]
+        requires { type_number < length self.now.types }
+        ensures { result.now ≡ leads_of self.now type_number }
+    {
+        self.leads[usize::from(type_number)].as_slice()
+    }
+
     /// An equal format.
     pub fn copy(&self, alloc: Global) -> Result<Self, Memory>
         ensures { IfOk result (λ copied. copied ≡ self.now) }
     {
         let types = copied_types(alloc, self.types.as_slice())?;
-        Ok(Format {
-            order: self.order,
-            pointer: self.pointer,
-            types,
-        })
+        Format::new(alloc, self.order, self.pointer, types)
     }
 }
 

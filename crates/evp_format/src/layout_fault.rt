@@ -67,6 +67,14 @@ pub enum LayoutFault {
     Memory,
 }
 
+impl From<evp_base::Memory> for LayoutFault {
+    ghost from_gives = { λ _ fault. fault ≡ Memory };
+
+    fn from(_error: evp_base::Memory) -> LayoutFault {
+        LayoutFault::Memory
+    }
+}
+
 impl From<AllocError> for LayoutFault {
     ghost from_gives = { λ _ fault. fault ≡ Memory };
 

@@ -55,7 +55,7 @@ fn format_at(alloc: Global, bytes: &[u8]) -> Result<(Format, u32), LayoutFault>
     if stated && !states_default(&types) {
         return Err(LayoutFault::Plain);
     }
-    Ok((Format::new(order, pointer, types), at))
+    Ok((Format::new(alloc, order, pointer, types)?, at))
 }
 
 // Whether defaults are stated.

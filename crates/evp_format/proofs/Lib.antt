@@ -7,6 +7,7 @@ pub mod DescribedFormats
 mod DescriptionExamples
 pub mod Descriptions
 mod Examples
+mod LeadExamples
 pub mod LeadFacts
 pub mod Lists
 pub mod Paths

@@ -19,13 +19,13 @@ use Rattle.evp_format.specs.Layout.{Layout}
 use Rattle.evp_format.specs.Equality.{order_eq, kind_number, kind_eq, base_eq, shape_eq, field_eq, fields_eq, type_eq, layout_eq}
 
 -- two tests decide both facts
-and-Decides : {P Q : Type 0} → (r s : Bool) → Decides r P → Decides s Q → Decides (r && s) (P × Q)
+pub and-Decides : {P Q : Type 0} → (r s : Bool) → Decides r P → Decides s Q → Decides (r && s) (P × Q)
 and-Decides true true p q = (λ told. (p.0 refl, q.0 refl), λ both. refl)
 and-Decides true false p q = (λ told. absurd (false≢true told), λ both. q.1 both.1)
 and-Decides false s p q = (λ told. absurd (false≢true told), λ both. p.1 both.0)
 
 -- a test of a fact decides each fact that is as true
-Decides-along : {P Q : Type 0} → (r : Bool) → (P → Q) → (Q → P) → Decides r P → Decides r Q
+pub Decides-along : {P Q : Type 0} → (r : Bool) → (P → Q) → (Q → P) → Decides r P → Decides r Q
 Decides-along r there back decides = (λ told. there (decides.0 told), λ fact. decides.1 (back fact))
 
 pub order_eq-Decides : (order other : Order) → Decides (order_eq order other) (order ≡ other)

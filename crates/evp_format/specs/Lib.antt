@@ -1,3 +1,4 @@
+pub mod BrokenText
 pub mod Bytes
 pub mod Class
 pub mod Clashing
@@ -16,6 +17,8 @@ pub mod Leads
 pub mod Packing
 pub mod Path
 pub mod Reading
+pub mod Sameness
+pub mod Samenesses
 pub mod Steps
 pub mod Text
 pub mod Tree

@@ -2,6 +2,7 @@
 #![tactic(auto)]
 
 mod broken;
+mod broken_text;
 mod clash;
 mod description;
 mod draft;
@@ -20,6 +21,7 @@ mod value;
 mod whole_type;
 
 pub use broken::Broken;
+pub use broken_text::BrokenText;
 pub use clash::clash_of;
 pub use description::{
     descriptions_are_distinct, faults_are_exact, read_description, write_description,

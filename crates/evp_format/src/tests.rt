@@ -293,3 +293,29 @@ fn identifier(rt: HostRuntime) -> Result<(), Fail> {
     assert_eq!(rt; id, FormatId(SMALL_ID));
     Ok(())
 }
+
+// The place of the only field of `SMALL`.
+fn first_field() -> Place {
+    Place::root().with(PlaceStep::At(0))
+}
+
+#[test]
+fn texts_of_broken_records(rt: HostRuntime) -> Result<(), Fail> {
+    let alloc = rt.alloc();
+    let format = read_description(alloc, SMALL)?;
+    let rows = [
+        (Broken::ShortRecord, "short record"),
+        (Broken::NegativeCount(first_field()), "negative count x"),
+        (Broken::NullList(first_field()), "null list x"),
+        (Broken::BlockPlace(first_field()), "block place x"),
+        (Broken::NoEnd(first_field()), "no end x"),
+    ];
+    for (fault, expected) in &rows {
+        let path = fault.path(alloc, &format)?;
+        let text = format!(in alloc; "{}", BrokenText { fault, path: &path })?;
+        assert_eq!(rt; text.as_str(), *expected);
+        assert!(rt; fault == fault);
+        assert!(rt; *fault != Broken::NoEnd(Place::root()));
+    }
+    Ok(())
+}

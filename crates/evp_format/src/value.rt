@@ -3,7 +3,7 @@ use evp_base::Name;
 use std::marker::Model;
 
 /// The bytes of a text, none of them zero.
-#[derive(Drop)]
+#[derive(Debug, Drop)]
 pub struct TextBytes {
     bytes: Vec<u8>,
 }
@@ -62,7 +62,7 @@ impl TextBytes {
 
 /// The elements of a list, in order.
 #[cycle(value)]
-#[derive(Drop)]
+#[derive(Debug, Drop)]
 pub struct Items {
     /// The elements.
     pub values: Vec<Value>,
@@ -70,7 +70,7 @@ pub struct Items {
 
 /// The fields of a record, in the format's order.
 #[cycle(value)]
-#[derive(Drop)]
+#[derive(Debug, Drop)]
 pub struct Members {
     /// Names and values.
     pub pairs: Vec<(Name, Value)>,
@@ -78,7 +78,7 @@ pub struct Members {
 
 /// A value of a record or of a part of one.
 #[cycle(value)]
-#[derive(Drop)]
+#[derive(Debug, Drop)]
 pub enum Value {
     /// A number.
     Num(i128),

@@ -47,8 +47,8 @@ pub fn lay_out(alloc: Global, profile: Profile, types: &[TypeDecl]) -> Result<Fo
         return Err(LayoutFault::Limit(Which::Types, count as u32));
     }
     let types = laid_types(alloc, profile, types)?;
-    let order = profile.byte_order();
-    Ok(Format::new(alloc, order, profile.pointer_size(), types)?)
+    let format = Format::new(alloc, profile.byte_order(), profile.pointer_size(), types)?;
+    Ok(format)
 }
 
 // The types, or the first fault.

@@ -37,8 +37,8 @@ pub returns-clause-value : goal.returns-clause-value
 returns-clause-value c =
     let types = c.args.types.now in
     let same = length-map types type_declared in
-    let made : c.new.result ≡ layout_with (byte_order c.args.profile) (pointer_size c.args.profile) c.in_ok-types.types.items =
-    c.new.ensures
+    let made : c.in_ok-format.format ≡ layout_with (byte_order c.args.profile) (pointer_size c.args.profile) c.in_ok-types.types.items =
+    c.in_ok-format.ensures
     ∙ ap (λ (order : Order). layout_with order c.pointer_size.result c.in_ok-types.types.items) c.byte_order.ensures
     ∙ ap (λ (size : ℕ). layout_with (byte_order c.args.profile) size c.in_ok-types.types.items) c.pointer_size.ensures in
     types_laid c.args.profile (types_declared types) c.in_ok-types.types.items (omega (arith, same)) (omega (arith, same)) c.in_ok-types.ensures ∙ ap (λ (layout : Layout). Ok layout) (sym made)
@@ -46,8 +46,8 @@ returns-clause-value c =
 pub returns-clause-as_in_c : goal.returns-clause-as_in_c
 returns-clause-as_in_c c =
     let types = c.args.types.now in
-    let made : c.new.result ≡ layout_with (byte_order c.args.profile) (pointer_size c.args.profile) c.in_ok-types.types.items =
-    c.new.ensures
+    let made : c.in_ok-format.format ≡ layout_with (byte_order c.args.profile) (pointer_size c.args.profile) c.in_ok-types.types.items =
+    c.in_ok-format.ensures
     ∙ ap (λ (order : Order). layout_with order c.pointer_size.result c.in_ok-types.types.items) c.byte_order.ensures
     ∙ ap (λ (size : ℕ). layout_with (byte_order c.args.profile) size c.in_ok-types.types.items) c.pointer_size.ensures in
     subst (IsCLayout c.args.profile) (sym made) (laid_types-as_in_c c.args.profile (types_declared types) c.in_ok-types.types.items c.in_ok-types.ensures)

@@ -1,6 +1,7 @@
 -- The leads of worked types.
 use Rattle.std.proofs.Common.{◌≡◌, ℕ, [], ◌∷◌, List, refl}
 use Rattle.std.specs.Prelude.{pos, codes}
+use Rattle.std.specs.Fmt.{digits}
 use Rattle.evp_base.specs.declared.kind.Kind.TheVariants.{Int, Unsigned}
 use Rattle.evp_base.specs.declared.order.Order.TheVariants.{Little}
 use Rattle.evp_base.specs.declared.step.Step.TheVariants as step
@@ -11,7 +12,6 @@ use Rattle.evp_format.specs.declared.field.Field.{Field}
 use Rattle.evp_format.specs.declared.field.Shape.{Shape}
 use Rattle.evp_format.specs.declared.field.Shape.TheVariants.{One, Fixed, Counted}
 use Rattle.evp_format.specs.declared.lead.Inside.TheVariants as inside
-use Rattle.evp_format.specs.declared.lead.Lead.{Lead}
 use Rattle.evp_format.specs.declared.lead.Run.TheVariants as run
 use Rattle.evp_format.specs.declared.record_type.RecordType.{RecordType}
 use Rattle.evp_format.specs.BrokenText.{broken_text}
@@ -72,6 +72,7 @@ short : broken_text ShortRecord [] ≡ codes "short record"
 short = refl
 
 negative : broken_text (NegativeCount []) (step.Field (codes "a") ∷ step.Index 3 ∷ []) ≡ codes "negative count a[3]"
+unfolding digits
 negative = refl
 
 unended : broken_text (NoEnd []) (step.Field (codes "s") ∷ step.Field (codes "t") ∷ []) ≡ codes "no end s.t"

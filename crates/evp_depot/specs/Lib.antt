@@ -4,4 +4,6 @@ pub mod DepotInMemory
 pub mod SinkInMemory
 pub mod Fetch
 pub mod Put
+pub mod Reads
+pub mod Texts
 pub mod Fronts

@@ -1,8 +1,9 @@
 //! A source of bytes under names.
-ghost use Rattle.std.specs.Prelude.{◌≡◌, ℕ, ◌+◌, ◌-◌, ◌<◌, ◌≤◌, ◌↔◌, List, Option, ◌++◌, length, take, drop, IfOk, IsErrOf, IsNone, OnSome, IfSome};
+ghost use Rattle.std.specs.Prelude.{◌≡◌, ℕ, ◌+◌, ◌-◌, ◌<◌, ◌≤◌, ◌↔◌, Some, Option, ◌++◌, length, take, drop, IfOk, IsErrOf, IsNone, IfSome};
 ghost use Rattle.std.specs.FinMap.{get};
-ghost use Rattle.evp_depot.specs.Counts.{Rose};
 ghost use Rattle.evp_depot.specs.Files.{Files, OnHeld};
+ghost use Rattle.evp_depot.specs.Reads.{Reads};
+ghost use Rattle.evp_depot.specs.Texts.{depot_fault_text};
 
 use std::error::Error;
 use std::fmt;
@@ -17,10 +18,12 @@ pub enum DepotFault {
 }
 
 impl fmt::Display for DepotFault {
+    ghost output = { λ fault. Some (depot_fault_text fault) };
+
     fn fmt<W: fmt::Write>(&self, f: &mut fmt::Formatter<W>) -> fmt::Result {
         match self {
-            DepotFault::Absent => write!(f, "absent"),
-            DepotFault::Failed => write!(f, "failed"),
+            DepotFault::Absent => f.write_str("absent"),
+            DepotFault::Failed => f.write_str("failed"),
         }
     }
 }
@@ -41,13 +44,8 @@ pub trait Depot {
     /// Reads bytes under the name, from place `at` on, into the front of the piece, and answers how
     /// many. None into a piece that isn't empty is the end.
     fn read(&mut self, name: &str, at: u64, into: &mut [u8]) -> Result<usize, DepotFault>
-        ensures misses { misses self.old ≤ misses self.new }
-        ensures faults { faults self.old ≤ faults self.new }
-        ensures missed { IsErrOf result DepotFault.Absent → Rose (misses self.old) (misses self.new) }
-        ensures failed { IsErrOf result DepotFault.Failed → Rose (faults self.old) (faults self.new) }
-        ensures faultless { ¬ IsErrOf result DepotFault.Failed → faults self.new ≡ faults self.old }
-
-        ensures still_held { OnSome (held self.old) (held self.new ≡ held self.old) }
+        ensures reads { Reads held misses faults self.old self.new
+            (IsErrOf result DepotFault.Absent) (IsErrOf result DepotFault.Failed) }
         ensures absent { IfSome (held self.old) (λ files.
             IsErrOf result DepotFault.Absent ↔ IsNone (get files name.now)) }
 

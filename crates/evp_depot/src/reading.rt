@@ -1,9 +1,10 @@
 //! Reading all that lies under a name.
 ghost use Rattle.std.specs.Prelude.{◌≡◌, ℕ, ◌+◌, ◌^◌, ◌<◌, ◌≤◌, ◌↔◌, length, Some, IfOk, IfSome, IsErrOf, IsNone, IsSome, IsSomeAnd, OnSome, OnOk, take, vec_len};
 ghost use Rattle.std.specs.FinMap.{get};
-ghost use Rattle.evp_depot.specs.Counts.{Rose};
 ghost use Rattle.evp_depot.specs.Files.{OnHeld};
 ghost use Rattle.evp_depot.specs.Fronts.{IsFront};
+ghost use Rattle.evp_depot.specs.Reads.{Reads};
+ghost use Rattle.evp_depot.specs.Texts.{fetch_text};
 
 use crate::depot::{Depot, DepotFault};
 use std::alloc::{AllocError, Global};
@@ -27,12 +28,14 @@ pub enum Fetch {
 }
 
 impl fmt::Display for Fetch {
+    ghost output = { λ fetch. Some (fetch_text fetch) };
+
     fn fmt<W: fmt::Write>(&self, f: &mut fmt::Formatter<W>) -> fmt::Result {
         match self {
-            Fetch::Absent => write!(f, "absent"),
-            Fetch::Failed => write!(f, "failed"),
-            Fetch::TooLong => write!(f, "too long"),
-            Fetch::Memory => write!(f, "memory"),
+            Fetch::Absent => f.write_str("absent"),
+            Fetch::Failed => f.write_str("failed"),
+            Fetch::TooLong => f.write_str("too long"),
+            Fetch::Memory => f.write_str("memory"),
         }
     }
 }
@@ -74,15 +77,11 @@ pub fn read_all<D: Depot>(
 ) -> Result<Vec<u8>, Fetch>
     requires { max < 2 ^ 31 }
 
-    ensures misses { D.misses depot.old ≤ D.misses depot.new }
-    ensures faults { D.faults depot.old ≤ D.faults depot.new }
-    ensures missed { IsErrOf result Fetch.Absent → Rose (D.misses depot.old) (D.misses depot.new) }
-    ensures failed { IsErrOf result Fetch.Failed → Rose (D.faults depot.old) (D.faults depot.new) }
-    ensures faultless { ¬ IsErrOf result Fetch.Failed → D.faults depot.new ≡ D.faults depot.old }
+    ensures reads { Reads D.held D.misses D.faults depot.old depot.new
+        (IsErrOf result Fetch.Absent) (IsErrOf result Fetch.Failed) }
     ensures within { IfOk result (λ bytes. vec_len bytes ≤ max) }
 
     // Where the depot tells what it holds:
-    ensures still_held { OnSome (D.held depot.old) (D.held depot.new ≡ D.held depot.old) }
     ensures all { IfSome (D.held depot.old) (λ files. IfOk result (λ bytes.
         get files name.now ≡ Some bytes.items)) }
     ensures absent { IfSome (D.held depot.old) (λ files.
@@ -134,12 +133,8 @@ fn read_behind<D: Depot>(
 ) -> Result<usize, DepotFault>
     requires { filled < length buffer.old }
 
-    ensures misses { D.misses depot.old ≤ D.misses depot.new }
-    ensures faults { D.faults depot.old ≤ D.faults depot.new }
-    ensures missed { IsErrOf result DepotFault.Absent → Rose (D.misses depot.old) (D.misses depot.new) }
-    ensures failed { IsErrOf result DepotFault.Failed → Rose (D.faults depot.old) (D.faults depot.new) }
-    ensures faultless { ¬ IsErrOf result DepotFault.Failed → D.faults depot.new ≡ D.faults depot.old }
-    ensures still_held { OnSome (D.held depot.old) (D.held depot.new ≡ D.held depot.old) }
+    ensures reads { Reads D.held D.misses D.faults depot.old depot.new
+        (IsErrOf result DepotFault.Absent) (IsErrOf result DepotFault.Failed) }
     ensures absent { IfSome (D.held depot.old) (λ files.
         IsErrOf result DepotFault.Absent ↔ IsNone (get files name.now)) }
 

@@ -1,5 +1,5 @@
 //! Where output goes.
-ghost use Rattle.std.specs.Prelude.{ℕ, ◌<◌, ◌≤◌, List, Option, length, take, IfOk, OnErr};
+ghost use Rattle.std.specs.Prelude.{ℕ, ◌<◌, ◌≤◌, List, Option, Some, codes, length, take, IfOk, OnErr};
 ghost use Rattle.std.specs.Io.KnownBytes.{Appends, Keeps};
 ghost use Rattle.evp_depot.specs.Counts.{Rose};
 
@@ -14,8 +14,10 @@ pub enum SinkFault {
 }
 
 impl fmt::Display for SinkFault {
+    ghost output = { λ _. Some (codes "failed") };
+
     fn fmt<W: fmt::Write>(&self, f: &mut fmt::Formatter<W>) -> fmt::Result {
-        write!(f, "failed")
+        f.write_str("failed")
     }
 }
 

@@ -1,6 +1,6 @@
 use crate::{
-    Depot, DepotFault, Fetch, FileDepot, MemoryDepot, MemorySink, Sink, StdSink, read_all,
-    write_all,
+    Depot, DepotFault, Fetch, FileDepot, MemoryDepot, MemorySink, PutFault, Sink, SinkFault,
+    StdSink, read_all, write_all,
 };
 use std::alloc::Global;
 use std::collections::BTreeMap;
@@ -15,27 +15,33 @@ fn depot_of(alloc: Global, length: usize, failing: &[u32]) -> Result<MemoryDepot
     Ok(MemoryDepot::new(files, failing.to_vec(alloc)?))
 }
 
+// Each row: how many bytes are held under `a`, the limit, the name, the calls that fail, what is
+// read, and by how many calls: pieces of 65,536 bytes first, then as much again as there is, never
+// past one byte behind the limit, and one more call for the end.
 #[test]
 fn reads_all_up_to_the_limit(rt: HostRuntime) -> Result<(), Fail> {
     let alloc = rt.alloc();
     let none: &[u32] = &[];
-    let cases: [(usize, u32, &str, &[u32], Result<usize, Fetch>); 10] = [
-        (0, 0, "a", none, Ok(0)),
-        (3, 3, "a", none, Ok(3)),
-        (3, 2, "a", none, Err(Fetch::TooLong)),
-        (3, 9, "b", none, Err(Fetch::Absent)),
-        (3, 9, "b", &[0], Err(Fetch::Absent)),
-        (3, 9, "a", &[0], Err(Fetch::Failed)),
-        (3, 9, "a", &[1], Err(Fetch::Failed)),
-        (200_000, 200_000, "a", none, Ok(200_000)),
-        (200_000, 199_999, "a", none, Err(Fetch::TooLong)),
-        (200_000, 1_048_576, "a", &[2], Err(Fetch::Failed)),
+    let cases: [(usize, u32, &str, &[u32], Result<usize, Fetch>, u32); 12] = [
+        (0, 0, "a", none, Ok(0), 1),
+        (3, 3, "a", none, Ok(3), 2),
+        (3, 2, "a", none, Err(Fetch::TooLong), 1),
+        (3, 9, "b", none, Err(Fetch::Absent), 1),
+        (3, 9, "b", &[0], Err(Fetch::Absent), 1),
+        (3, 9, "a", &[0], Err(Fetch::Failed), 1),
+        (3, 9, "a", &[1], Err(Fetch::Failed), 2),
+        (65_536, 1_048_576, "a", none, Ok(65_536), 2),
+        (200_000, 200_000, "a", none, Ok(200_000), 4),
+        (200_000, 199_999, "a", none, Err(Fetch::TooLong), 3),
+        (1_000_000, 1_048_576, "a", none, Ok(1_000_000), 6),
+        (200_000, 1_048_576, "a", &[2], Err(Fetch::Failed), 3),
     ];
-    for (length, max, name, failing, want) in cases {
+    for (length, max, name, failing, want, calls) in cases {
         let mut depot = depot_of(alloc, length, failing)?;
         let got = read_all(alloc, &mut depot, name, max);
         let got = got.map(|bytes| bytes.iter().filter(|byte| **byte == 7).count());
         assert_eq!(rt; got, want, "{length} bytes of {name} up to {max}");
+        assert_eq!(rt; depot.calls, calls, "{length} bytes of {name} up to {max}");
     }
     Ok(())
 }
@@ -90,4 +96,23 @@ fn writes_standard_output(rt: HostRuntime) {
     let mut sink = StdSink::new(&rt);
     assert_eq!(rt; sink.write(b""), Ok(0));
     assert!(rt; write_all(&mut sink, b"written\n").is_ok());
+}
+
+#[test]
+fn texts_of_faults(rt: HostRuntime) -> Result<(), Fail> {
+    let alloc = rt.alloc();
+    let told = [
+        (DepotFault::Absent.to_string(alloc)?, "absent"),
+        (DepotFault::Failed.to_string(alloc)?, "failed"),
+        (SinkFault::Failed.to_string(alloc)?, "failed"),
+        (PutFault::Failed.to_string(alloc)?, "failed"),
+        (Fetch::Absent.to_string(alloc)?, "absent"),
+        (Fetch::Failed.to_string(alloc)?, "failed"),
+        (Fetch::TooLong.to_string(alloc)?, "too long"),
+        (Fetch::Memory.to_string(alloc)?, "memory"),
+    ];
+    for (text, want) in told {
+        assert_eq!(rt; text.as_str(), want);
+    }
+    Ok(())
 }

@@ -1,8 +1,6 @@
 //! Writing all bytes of a piece.
-ghost use Rattle.std.specs.Prelude.{◌≤◌, OnOk, OnErr};
-ghost use Rattle.std.specs.Io.KnownBytes.{Appends};
-ghost use Rattle.evp_depot.specs.Counts.{Rose};
-ghost use Rattle.evp_depot.specs.Put.{AppendsPart};
+ghost use Rattle.std.specs.Prelude.{Some, codes};
+ghost use Rattle.evp_depot.specs.Put.{Puts};
 
 use crate::sink::{Sink, SinkFault};
 use std::error::Error;
@@ -16,8 +14,10 @@ pub enum PutFault {
 }
 
 impl fmt::Display for PutFault {
+    ghost output = { λ _. Some (codes "failed") };
+
     fn fmt<W: fmt::Write>(&self, f: &mut fmt::Formatter<W>) -> fmt::Result {
-        write!(f, "failed")
+        f.write_str("failed")
     }
 }
 
@@ -31,14 +31,11 @@ impl From<SinkFault> for PutFault {
     }
 }
 
-/// Writes all bytes, in as many writes as the sink wants, none of an empty piece. It takes no memory.
+/// Writes all bytes, in as many writes as the sink wants, none of an empty piece. `Failed` comes as
+/// soon as a write fails; a part of the bytes, and never all, may have been put then. It takes no
+/// memory.
 pub fn write_all<K: Sink>(sink: &mut K, bytes: &[u8]) -> Result<(), PutFault>
-    ensures faults { K.faults sink.old ≤ K.faults sink.new }
-    ensures failed { OnErr result (Rose (K.faults sink.old) (K.faults sink.new)) }
-
-    // Where the sink tells what it has taken:
-    ensures all { OnOk result (Appends (K.put sink.old) (K.put sink.new) bytes.now) }
-    ensures part { OnErr result (AppendsPart (K.put sink.old) (K.put sink.new) bytes.now) }
+    ensures { Puts K.faults K.put sink.old sink.new bytes.now result }
 {
     let mut written = 0;
     while written < bytes.len() {

@@ -1,15 +1,8 @@
 -- The definitions computed on the first example, by hand.
 use Rattle.std.proofs.Common.{◌≡◌, [], ◌∷◌, codes, pos, refl}
-use Rattle.evp_stones.specs.Escaped.{escaped, quoted}
 use Rattle.evp_stones.specs.FirstJob.{FirstJob}
 use Rattle.evp_stones.specs.FirstFile.{FirstFile, file_bytes, big, description}
 use Rattle.evp_stones.specs.Report.{submitted}
-
-quotes : quoted (codes "a\"b\\c") ≡ codes "\"a\\\"b\\\\c\""
-quotes = refl
-
-not_printed : escaped 171 ≡ codes "\\xab"
-not_printed = refl
 
 first_job : FirstJob
 first_job = record { format = codes "q"; profile = codes "be64"; record_type = codes "q"; field = codes "x"; source = codes "a"; file = codes "a.ndr"; submit = 1 }

@@ -3,7 +3,6 @@ mod NameFacts
 mod FileFacts
 mod ReportFacts
 mod QuotedFacts
-mod OnErr
 mod AnswerFacts
 mod OutcomeFacts
 mod Examples

@@ -5,7 +5,7 @@ use Rattle.evp_depot.specs.Counts.{Rose}
 use Rattle.evp_depot.specs.Files.{Files}
 use Rattle.evp_depot.specs.Put.{AppendsPart}
 use Rattle.evp_stones.specs.Carried.{IsReport, IsAbsentName, IsHeldName}
-use Rattle.evp_stones.specs.Escaped.{quoted}
+use Rattle.evp_base.specs.Quoted.{quoted}
 use Rattle.evp_stones.specs.Lines.{status_of, refusal_text, refusal_line, IfAbsent, IfFailed}
 use Rattle.evp_stones.specs.Outcome.{IsStatus, Wrote}
 use Rattle.evp_stones.specs.declared.refusal.Refusal.{Refusal}

@@ -2,7 +2,7 @@
 use Rattle.std.proofs.Common.{◌≡◌, ℕ, ◌+◌, ◌<◌, List, ◌∷◌, ◌++◌, take, drop, length, get_or, codes, sym, ap, ◌∙◌, append_assoc, take-append-drop, drop-cons, add-one}
 use Rattle.std.specs.List.{flat_map}
 use Rattle.std.proofs.lemmas.Grind.{flat_map-append}
-use Rattle.evp_stones.specs.Escaped.{escaped, quoted}
+use Rattle.evp_base.specs.Quoted.{escaped, quoted}
 
 -- the bytes from a place on are its byte and the rest
 drop_here : (bytes : List ℕ) (i : ℕ) → i < length bytes → drop i bytes ≡ get_or bytes i 0 ∷ drop (i + 1) bytes

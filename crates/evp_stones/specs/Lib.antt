@@ -3,7 +3,6 @@ pub mod FirstJob
 pub mod FirstFile
 pub mod Report
 pub mod Carried
-pub mod Escaped
 pub mod Lines
 pub mod Outcome
 pub mod Shown

@@ -1,6 +1,6 @@
 -- The line that a refusal writes, and its status.
 use Rattle.std.specs.Prelude.{◌≡◌, ℕ, List, ◌++◌, codes, string_bytes, ⊤}
-use Rattle.evp_stones.specs.Escaped.{quoted}
+use Rattle.evp_base.specs.Quoted.{quoted}
 use Rattle.evp_stones.specs.declared.refusal.Refusal.{Refusal}
 use Rattle.evp_stones.specs.declared.refusal.Refusal.TheVariants.{Words, Absent, Read, NotBuilt, Memory}
 

@@ -1,9 +1,7 @@
 //! What the program refuses, and the line that it writes of it.
-ghost use Rattle.std.specs.Prelude.{◌≡◌, ◌≤◌, ◌++◌, OnOk, OnErr};
-ghost use Rattle.std.specs.Io.KnownBytes.{Appends};
-ghost use Rattle.evp_depot.specs.Counts.{Rose};
-ghost use Rattle.evp_depot.specs.Put.{AppendsPart};
-ghost use Rattle.evp_stones.specs.Escaped.{quoted};
+ghost use Rattle.std.specs.Prelude.{◌≡◌, ◌++◌};
+ghost use Rattle.evp_base.specs.Quoted.{quoted};
+ghost use Rattle.evp_depot.specs.Put.{Puts};
 
 use crate::escape::put_quoted;
 use evp_base::Memory;
@@ -65,10 +63,7 @@ impl Refusal {
 
     /// Writes the line. It takes no memory.
     pub fn put_line<K: Sink>(&self, sink: &mut K) -> Result<(), PutFault>
-        ensures faults { K.faults sink.old ≤ K.faults sink.new }
-        ensures failed { OnErr result (Rose (K.faults sink.old) (K.faults sink.new)) }
-        ensures all { OnOk result (Appends (K.put sink.old) (K.put sink.new) (refusal_line self.now)) }
-        ensures part { OnErr result (AppendsPart (K.put sink.old) (K.put sink.new) (refusal_line self.now)) }
+        ensures { Puts K.faults K.put sink.old sink.new (refusal_line self.now) result }
     {
         write_all(sink, b"stones: ")?;
         self.put_text(sink)?;
@@ -77,10 +72,7 @@ impl Refusal {
 
     // Writes the text of the refusal.
     fn put_text<K: Sink>(&self, sink: &mut K) -> Result<(), PutFault>
-        ensures faults { K.faults sink.old ≤ K.faults sink.new }
-        ensures failed { OnErr result (Rose (K.faults sink.old) (K.faults sink.new)) }
-        ensures all { OnOk result (Appends (K.put sink.old) (K.put sink.new) (refusal_text self.now)) }
-        ensures part { OnErr result (AppendsPart (K.put sink.old) (K.put sink.new) (refusal_text self.now)) }
+        ensures { Puts K.faults K.put sink.old sink.new (refusal_text self.now) result }
     {
         match self {
             Refusal::Words => write_all(sink, b"words"),
@@ -94,10 +86,7 @@ impl Refusal {
 
 // Writes what happened, and the name in quotes.
 fn put_named<K: Sink>(sink: &mut K, what: &[u8], name: &str) -> Result<(), PutFault>
-    ensures faults { K.faults sink.old ≤ K.faults sink.new }
-    ensures failed { OnErr result (Rose (K.faults sink.old) (K.faults sink.new)) }
-    ensures all { OnOk result (Appends (K.put sink.old) (K.put sink.new) (what.now ++ quoted name.now)) }
-    ensures part { OnErr result (AppendsPart (K.put sink.old) (K.put sink.new) (what.now ++ quoted name.now)) }
+    ensures { Puts K.faults K.put sink.old sink.new (what.now ++ quoted name.now) result }
 {
     write_all(sink, what)?;
     put_quoted(sink, name.as_bytes())

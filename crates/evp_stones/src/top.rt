@@ -1,11 +1,11 @@
 //! The top call.
 ghost use Rattle.std.specs.Prelude.{◌≡◌, ℕ, ◌↔◌, ◌++◌, List, map, codes, string_bytes, IfSome};
 ghost use Rattle.std.specs.Io.KnownBytes.{Appends};
+ghost use Rattle.evp_base.specs.Quoted.{quoted};
 ghost use Rattle.evp_depot.specs.Counts.{Rose};
 ghost use Rattle.evp_depot.specs.Put.{AppendsPart};
 ghost use Rattle.evp_stones.specs.Words.{IsLine};
 ghost use Rattle.evp_stones.specs.Carried.{IsReport, IsAbsentName, IsHeldName};
-ghost use Rattle.evp_stones.specs.Escaped.{quoted};
 ghost use Rattle.evp_stones.specs.Outcome.{IsStatus, Wrote};
 
 use crate::answer::answer;

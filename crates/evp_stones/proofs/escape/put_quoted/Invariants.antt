@@ -1,7 +1,7 @@
 use Rattle.std.proofs.Common.{◌≤◌, ◌++◌, take, codes}
 use Rattle.std.specs.List.{flat_map}
 use Rattle.std.specs.Io.KnownBytes.{Appends}
-use Rattle.evp_stones.specs.Escaped.{escaped}
+use Rattle.evp_base.specs.Quoted.{escaped}
 use Rattle.evp_stones.proofs.escape.put_quoted.Given as goal
 
 -- the quote and the bytes so far were put

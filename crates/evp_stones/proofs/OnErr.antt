@@ -1,7 +1,0 @@
--- Clauses on an error.
-use Rattle.std.proofs.Common.{Result, Ok, Err, OnErr}
-
--- what holds anyway holds on an error
-pub on_err_always : {T E P : Type 0} (r : Result T E) → P → OnErr r P
-on_err_always (Ok x) p = tt
-on_err_always (Err e) p = p

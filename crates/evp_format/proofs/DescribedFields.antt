@@ -1,25 +1,25 @@
 -- What is read part by part stands there as it is described.
-use Rattle.std.proofs.Common.{◌≡◌, ℕ, zero, suc, ◌+◌, ◌≤◌, ℤ, pos, Bool, true, false, cond, List, [], ◌∷◌, ◌++◌, length, Some, None, Result, Ok, Err, refl, sym, ap, subst, ◌∙◌, append_assoc}
-use Rattle.std.specs.Prelude.{◌&&◌, not, nat_le}
+use Rattle.std.proofs.Common.{◌≡◌, ℕ, zero, suc, ◌+◌, ◌≤◌, ℤ, pos, Bool, true, false, cond, List, [], ◌∷◌, ◌++◌, length, Result, Ok, Err, refl, sym, ap, subst, ◌∙◌, append_assoc}
+use Rattle.std.specs.Prelude.{◌&&◌, nat_le}
 use Rattle.std.proofs.lemmas.List.{append-nil}
-use Rattle.evp_base.specs.Name.{is_name}
 use Rattle.evp_base.proofs.Digits.{AreBytes}
 use Rattle.evp_format.specs.declared.draft.DraftField.{DraftField}
 use Rattle.evp_format.specs.declared.draft.DraftShape.{DraftShape}
 use Rattle.evp_format.specs.declared.field.Base.{Base}
 use Rattle.evp_format.specs.declared.layout_fault.LayoutFault.{LayoutFault}
-use Rattle.evp_format.specs.declared.layout_fault.LayoutFault.TheVariants.{BadName, Twice, Size, Outside, Limit, TypeTwice, Default}
-use Rattle.evp_format.specs.declared.layout_fault.Which.TheVariants.{Fields, AllFields, Length}
+use Rattle.evp_format.specs.declared.layout_fault.LayoutFault.TheVariants.{Outside, Limit}
+use Rattle.evp_format.specs.declared.layout_fault.Which.TheVariants.{Length}
 use Rattle.evp_format.specs.declared.record_type.RecordType.{RecordType}
 use Rattle.evp_format.specs.Describing.{described_number, described_text, stated_number, base_word}
-use Rattle.evp_format.specs.Drafts.{has_field, has_type, is_base_size, draft_extent, draft_of, may_default}
+use Rattle.evp_format.specs.Drafts.{draft_extent, draft_of}
+use Rattle.evp_format.specs.Parts.{new_type_name, new_field_count, new_field_name, allowed_size, allowed_default}
 use Rattle.evp_format.specs.Reading.{number_at, signed_at, text_at, field_name_at, field_type_at, field_size_at, field_offset_at, default_at, field_at, fields_at, type_name_at, type_length_at, field_count_at}
 use Rattle.evp_format.specs.Steps.{◌>>=◌}
 use Rattle.evp_format.specs.TypeText.{type_text_of}
-use Rattle.evp_format.specs.WellLaid.{is_reserved}
+use Rattle.evp_format.proofs.Parts.{read_tested, type_name_facts, field_name_facts, field_count_facts, size_facts, default_facts}
 use Rattle.evp_format.proofs.Places.{Stands, stands_nothing, stands_join, number_stands, signed_stands, text_stands}
 use Rattle.evp_format.proofs.TypeTexts.{stated_shape_text, type_text_spelled}
-use Rattle.evp_format.proofs.WellLaidTypes.{bind_ok, passed, not_refused, passed_on, ok_is}
+use Rattle.evp_format.proofs.WellLaidTypes.{bind_ok, passed, ok_is}
 
 -- a stated field as it is described
 abbrev pub draft_described : Bool → List RecordType → DraftField → List ℕ
@@ -33,31 +33,28 @@ drafts_described stated earlier (field ∷ fields) = draft_described stated earl
 
 -- ---- the parts that were read
 
+stands_as : {A : Type 0} (read : Result (A × ℕ) LayoutFault) (x : A) (y : A × ℕ) → read ≡ Ok (x, y.1) → x ≡ y.0 → read ≡ Ok y
+stands_as {A} read x y e same = let with_value : A → Result (A × ℕ) LayoutFault = λ z. Ok (z, y.1) in e ∙ ap with_value same
+
 pub name_read : (type : ℕ) (before : List DraftField) (bytes : List ℕ) (at : ℕ) (name : List ℕ × ℕ) → field_name_at type before bytes at ≡ Ok name → text_at bytes at ≡ Ok name
 unfolding field_name_at
 name_read type before bytes at name e =
-    let tested : List ℕ × ℕ → Result (List ℕ × ℕ) LayoutFault = λ text. cond (has_field before text.0) (Err (Twice type (length before))) (Ok text) in
-    let text = bind_ok (text_at bytes at) (λ text. cond (is_name text.0) (tested text) (Err (BadName type (Some (length before))))) name e in
-    let named = passed_on (is_name text.0.0) (BadName type (Some (length before))) (tested text.0) name text.2 in
-    let fresh = not_refused (has_field before text.0.0) (Twice type (length before)) (Ok text.0) name named.1 in
-    text.1 ∙ fresh.1
+    let read = read_tested (text_at bytes at) (new_field_name type before) name e in
+    stands_as (text_at bytes at) read.0 name read.1 (field_name_facts type before read.0 name.0 read.2).2
 
 pub type_text_stands : (earlier : List RecordType) (field : ℕ) (bytes : List ℕ) (at : ℕ) (said : (Base × DraftShape) × ℕ) → AreBytes bytes → field_type_at earlier field bytes at ≡ Ok said
     → Stands bytes at (described_text (base_word earlier said.0.0 ++ stated_shape_text said.0.1)) said.1
 unfolding field_type_at
 type_text_stands earlier field bytes at said are e =
-    let text = bind_ok (text_at bytes at) (λ text. type_text_of earlier (length earlier) field text.0 >>= λ some. Ok (some, text.1)) said e in
-    let some = bind_ok (type_text_of earlier (length earlier) field text.0.0) (λ some. Ok (some, text.0.1)) said text.2 in
-    let spelled = type_text_spelled earlier (length earlier) field text.0.0 some.0 some.1 in
-    let made : (Base × DraftShape) × ℕ = (some.0, text.0.1) in
-    subst (λ (s : (Base × DraftShape) × ℕ). Stands bytes at (described_text (base_word earlier s.0.0 ++ stated_shape_text s.0.1)) s.1) (ok_is made said some.2)
-    (subst (λ (t : List ℕ). Stands bytes at (described_text t) text.0.1) (sym spelled.2) (text_stands bytes at text.0 are text.1))
+    let read = read_tested (text_at bytes at) (type_text_of earlier (length earlier) field) said e in
+    let spelled = type_text_spelled earlier (length earlier) field read.0 said.0 read.2 in
+    subst (λ (t : List ℕ). Stands bytes at (described_text t) said.1) (sym spelled.2) (text_stands bytes at (read.0, said.1) are read.1)
 
 size_read : (pointer : ℕ) (earlier : List RecordType) (field : ℕ) (base : Base) (bytes : List ℕ) (at : ℕ) (size : ℕ × ℕ) → field_size_at pointer earlier field base bytes at ≡ Ok size → number_at 4 bytes at ≡ Ok size
 unfolding field_size_at
 size_read pointer earlier field base bytes at size e =
-    let n = bind_ok (number_at 4 bytes at) (λ n. cond (is_base_size pointer earlier base n.0) (Ok n) (Err (Size (length earlier) field))) size e in
-    n.1 ∙ ap (λ (s : ℕ × ℕ). Ok s) (passed (is_base_size pointer earlier base n.0.0) (Size (length earlier) field) n.0 size n.2).1
+    let read = read_tested (number_at 4 bytes at) (allowed_size pointer earlier field base) size e in
+    stands_as (number_at 4 bytes at) read.0 size read.1 (size_facts pointer earlier field base read.0 size.0 read.2).1
 
 offset_read : (type field taken room : ℕ) (bytes : List ℕ) (at : ℕ) (offset : ℕ × ℕ) → field_offset_at type field taken room bytes at ≡ Ok offset → number_at 4 bytes at ≡ Ok offset
 unfolding field_offset_at
@@ -72,9 +69,8 @@ default_stands false type field number bytes at fallback are within e =
     let none : ℤ × ℕ = (pos 0, at) in
     subst (λ (f : ℤ × ℕ). Stands bytes at (stated_number false f.0) f.1) (ok_is none fallback e) (stands_nothing bytes at within)
 default_stands true type field number bytes at fallback are within e =
-    let n = bind_ok (signed_at bytes at) (λ n. cond (may_default field.base field.shape field.size n.0) (Ok n) (Err (Default type number))) fallback e in
-    let fits = passed (may_default field.base field.shape field.size n.0.0) (Default type number) n.0 fallback n.2 in
-    signed_stands bytes at fallback are (n.1 ∙ ap (λ (s : ℤ × ℕ). Ok s) fits.1)
+    let read = read_tested (signed_at bytes at) (allowed_default type number field) fallback e in
+    signed_stands bytes at fallback are (stands_as (signed_at bytes at) read.0 fallback read.1 (default_facts type number field read.0 fallback.0 read.2).1)
 
 -- ---- a field
 
@@ -173,11 +169,8 @@ fields_stand (suc count) stated pointer earlier room before bytes at fields are 
 pub type_name_read : (earlier : List RecordType) (bytes : List ℕ) (at : ℕ) (name : List ℕ × ℕ) → type_name_at earlier bytes at ≡ Ok name → text_at bytes at ≡ Ok name
 unfolding type_name_at
 type_name_read earlier bytes at name e =
-    let tested : List ℕ × ℕ → Result (List ℕ × ℕ) LayoutFault = λ text. cond (has_type earlier text.0) (Err (TypeTwice (length earlier))) (Ok text) in
-    let text = bind_ok (text_at bytes at) (λ text. cond (is_name text.0 && not (is_reserved text.0)) (tested text) (Err (BadName (length earlier) None))) name e in
-    let named = passed_on (is_name text.0.0 && not (is_reserved text.0.0)) (BadName (length earlier) None) (tested text.0) name text.2 in
-    let fresh = not_refused (has_type earlier text.0.0) (TypeTwice (length earlier)) (Ok text.0) name named.1 in
-    text.1 ∙ fresh.1
+    let read = read_tested (text_at bytes at) (new_type_name earlier) name e in
+    stands_as (text_at bytes at) read.0 name read.1 (type_name_facts earlier read.0 name.0 read.2).3
 
 pub length_read : (bytes : List ℕ) (at : ℕ) (room : ℕ × ℕ) → type_length_at bytes at ≡ Ok room → number_at 4 bytes at ≡ Ok room
 unfolding type_length_at
@@ -188,7 +181,5 @@ length_read bytes at room e =
 pub count_read : (so_far : ℕ) (bytes : List ℕ) (at : ℕ) (count : ℕ × ℕ) → field_count_at so_far bytes at ≡ Ok count → number_at 2 bytes at ≡ Ok count
 unfolding field_count_at
 count_read so_far bytes at count e =
-    let tested : ℕ × ℕ → Result (ℕ × ℕ) LayoutFault = λ n. cond (nat_le (so_far + n.0) 4096) (Ok n) (Err (Limit AllFields (so_far + n.0))) in
-    let n = bind_ok (number_at 2 bytes at) (λ n. cond (nat_le 1 n.0 && nat_le n.0 1024) (tested n) (Err (Limit Fields n.0))) count e in
-    let some = passed_on (nat_le 1 n.0.0 && nat_le n.0.0 1024) (Limit Fields n.0.0) (tested n.0) count n.2 in
-    n.1 ∙ ap (λ (s : ℕ × ℕ). Ok s) (passed (nat_le (so_far + n.0.0) 4096) (Limit AllFields (so_far + n.0.0)) n.0 count some.1).1
+    let read = read_tested (number_at 2 bytes at) (new_field_count so_far) count e in
+    stands_as (number_at 2 bytes at) read.0 count read.1 (field_count_facts so_far read.0 count.0 read.2).3

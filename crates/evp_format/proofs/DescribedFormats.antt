@@ -69,6 +69,12 @@ drafts_stated_from type n all (draft ∷ drafts) whole fields counted e =
     let rest = drafts_stated_from type (n + 1) all drafts whole b.0 counted b.1 in
     ap (λ (d : DraftField). d ∷ drafts) first ∙ ap (λ (some : List DraftField). stated_of whole (field_with draft a.0) ∷ some) rest ∙ ap (stated_all whole) made
 
+-- fields that ended were stated so
+pub drafts_stated : (type : ℕ) (drafts : List DraftField) (fields : List Field) → counted_fields type 0 drafts drafts ≡ Ok fields → drafts ≡ stated_all fields fields
+drafts_stated type drafts fields e =
+    let each = counted_each type 0 drafts drafts fields e in
+    drafts_stated_from type 0 drafts drafts fields fields (record { same_length = each.0; each = each.1 }) e
+
 known_stated : (pointer : ℕ) (earlier : List RecordType) (room : ℕ) (whole : List Field) (all : List DraftField) (front : List DraftField) (fields : List Field) → AreDrafts pointer earlier room all → all ≡ front ++ stated_all whole fields → AreKnown earlier fields
 known_stated pointer earlier room whole all front [] are split = tt
 known_stated pointer earlier room whole all front (field ∷ fields) are split =
@@ -108,12 +114,13 @@ type_stands stated pointer earlier bytes at type are e =
     let read = fields_stand count.0.0 stated pointer earlier room.0.0 [] bytes count.0.1 fields.0 are s2.0.within fields.1 in
     let drafts = fields_facts count.0.0 stated pointer earlier room.0.0 [] bytes count.0.1 fields.0 fields.1 (no_drafts pointer earlier room.0.0) in
     let ends = whole_type_ends pointer earlier name.0.0 room.0.0 fields.0.0 whole.0 whole.1 in
-    let each = counted_each (length earlier) 0 fields.0.0 fields.0.0 ends.fields ends.counted in
-    let counted : AreCounted fields.0.0 ends.fields = record { same_length = each.0; each = each.1 } in
-    let are_stated : fields.0.0 ≡ stated_all ends.fields ends.fields = drafts_stated_from (length earlier) 0 fields.0.0 fields.0.0 ends.fields ends.fields counted ends.counted in
-    let new_stated : read.new ≡ stated_all ends.fields ends.fields = sym read.are ∙ are_stated in
-    let known = known_stated pointer earlier room.0.0 ends.fields fields.0.0 [] ends.fields drafts.0 are_stated in
-    let number : count.0.0 ≡ length ends.fields = let long = drafts.1 in let same = each.0 in omega (arith, long, same) in
+    let ended = ends.ended in
+    let each = counted_each (length earlier) 0 fields.0.0 fields.0.0 ended.fields ended.counted in
+    let counted : AreCounted fields.0.0 ended.fields = record { same_length = each.0; each = each.1 } in
+    let are_stated : fields.0.0 ≡ stated_all ended.fields ended.fields = drafts_stated_from (length earlier) 0 fields.0.0 fields.0.0 ended.fields ended.fields counted ended.counted in
+    let new_stated : read.new ≡ stated_all ended.fields ended.fields = sym read.are ∙ are_stated in
+    let known = known_stated pointer earlier room.0.0 ended.fields fields.0.0 [] ended.fields drafts.0 are_stated in
+    let number : count.0.0 ≡ length ended.fields = let long = drafts.1 in let same = each.0 in omega (arith, long, same) in
     let d0 = described_text name.0.0 in
     let d1 = described_number 4 room.0.0 in
     let d2 = described_number 2 count.0.0 in
@@ -122,13 +129,13 @@ type_stands stated pointer earlier bytes at type are e =
     let j3 = stands_join bytes at (d0 ++ d1 ++ d2) count.0.1 (drafts_described stated earlier read.new) fields.0.1 j2 read.stand in
     let stands : TypeStands stated earlier bytes at whole.0 fields.0.1 = record {
       stand = λ more.
-          let texts : drafts_described stated earlier read.new ≡ described_fields stated (earlier ++ more) ends.fields ends.fields =
-          ap (drafts_described stated earlier) new_stated ∙ sym (fields_described stated earlier more ends.fields ends.fields known) in
-          let text : d0 ++ d1 ++ d2 ++ drafts_described stated earlier read.new ≡ described_type stated (earlier ++ more) (type_of name.0.0 room.0.0 ends.fields) =
+          let texts : drafts_described stated earlier read.new ≡ described_fields stated (earlier ++ more) ended.fields ended.fields =
+          ap (drafts_described stated earlier) new_stated ∙ sym (fields_described stated earlier more ended.fields ended.fields known) in
+          let text : d0 ++ d1 ++ d2 ++ drafts_described stated earlier read.new ≡ described_type stated (earlier ++ more) (type_of name.0.0 room.0.0 ended.fields) =
           ap (λ (n : ℕ). d0 ++ d1 ++ described_number 2 n ++ drafts_described stated earlier read.new) number
-          ∙ ap (λ (t : List ℕ). d0 ++ d1 ++ described_number 2 (length ends.fields) ++ t) texts in
-          subst (λ (t : List ℕ). Stands bytes at t fields.0.1) (text ∙ ap (described_type stated (earlier ++ more)) ends.is) j3;
-      plain = subst (λ (t : RecordType). HasPlain stated t.fields) ends.is (plain_stated stated ends.fields ends.fields (subst (ArePlain stated) new_stated read.plain));
+          ∙ ap (λ (t : List ℕ). d0 ++ d1 ++ described_number 2 (length ended.fields) ++ t) texts in
+          subst (λ (t : List ℕ). Stands bytes at t fields.0.1) (text ∙ ap (described_type stated (earlier ++ more)) ended.is) j3;
+      plain = subst (λ (t : RecordType). HasPlain stated t.fields) ended.is (plain_stated stated ended.fields ended.fields (subst (ArePlain stated) new_stated read.plain));
     } in
     subst (λ (t : RecordType × ℕ). TypeStands stated earlier bytes at t.0 t.1) (ok_is made type whole.2) stands
 

@@ -9,6 +9,7 @@ use Rattle.evp_format.specs.declared.layout_fault.LayoutFault.TheVariants as fau
 use Rattle.evp_format.specs.Describing.{describe}
 use Rattle.evp_format.specs.Layout.{Layout}
 use Rattle.evp_format.specs.Drafts.{shape_in, counted_fields, without_count_default, within_nesting, without_overlap}
+use Rattle.evp_format.specs.Parts.{new_type_name, new_field_count, new_field_name, allowed_size, allowed_default, ended_type}
 use Rattle.evp_format.specs.TypeText.{word_of, fixed_of, inside_of, shape_of, base_of, type_text_of}
 use Rattle.evp_format.specs.Reading.{number_at, signed_at, text_behind, text_at, field_name_at, field_type_at, field_size_at, field_offset_at, default_at, field_at, fields_at, type_name_at, type_length_at, field_count_at, whole_type, type_at, types_at, magic_at, order_at, pointer_at, type_count_at, with_default, layout_at, layout_of, layout_fault}
 
@@ -56,37 +57,37 @@ abbrev twelve_zeros : List ℕ
 twelve_zeros = replicate 12 0
 
 small_is_read : layout_of small ≡ Ok small_layout
-unfolding digits word_of fixed_of inside_of shape_of base_of type_text_of shape_in counted_fields without_count_default within_nesting without_overlap number_at signed_at text_behind text_at field_name_at field_type_at field_size_at field_offset_at default_at field_at fields_at type_name_at type_length_at field_count_at whole_type type_at types_at magic_at order_at pointer_at type_count_at with_default layout_at layout_of
+unfolding digits word_of fixed_of inside_of shape_of base_of type_text_of shape_in counted_fields without_count_default within_nesting without_overlap number_at signed_at text_behind text_at field_name_at field_type_at field_size_at field_offset_at default_at field_at fields_at type_name_at type_length_at field_count_at whole_type type_at types_at magic_at order_at pointer_at type_count_at with_default layout_at layout_of new_type_name new_field_count new_field_name allowed_size allowed_default ended_type
 small_is_read = refl
 
 float_is_refused : layout_fault float_text ≡ Some (fault.Float 0 0)
-unfolding digits word_of fixed_of inside_of shape_of base_of type_text_of shape_in counted_fields without_count_default within_nesting without_overlap number_at signed_at text_behind text_at field_name_at field_type_at field_size_at field_offset_at default_at field_at fields_at type_name_at type_length_at field_count_at whole_type type_at types_at magic_at order_at pointer_at type_count_at with_default layout_at layout_of
+unfolding digits word_of fixed_of inside_of shape_of base_of type_text_of shape_in counted_fields without_count_default within_nesting without_overlap number_at signed_at text_behind text_at field_name_at field_type_at field_size_at field_offset_at default_at field_at fields_at type_name_at type_length_at field_count_at whole_type type_at types_at magic_at order_at pointer_at type_count_at with_default layout_at layout_of new_type_name new_field_count new_field_name allowed_size allowed_default ended_type
 float_is_refused = refl
 
 overlap_is_refused : layout_fault two_overlap ≡ Some (fault.Overlap 0 0 1)
-unfolding digits word_of fixed_of inside_of shape_of base_of type_text_of shape_in counted_fields without_count_default within_nesting without_overlap number_at signed_at text_behind text_at field_name_at field_type_at field_size_at field_offset_at default_at field_at fields_at type_name_at type_length_at field_count_at whole_type type_at types_at magic_at order_at pointer_at type_count_at with_default layout_at layout_of
+unfolding digits word_of fixed_of inside_of shape_of base_of type_text_of shape_in counted_fields without_count_default within_nesting without_overlap number_at signed_at text_behind text_at field_name_at field_type_at field_size_at field_offset_at default_at field_at fields_at type_name_at type_length_at field_count_at whole_type type_at types_at magic_at order_at pointer_at type_count_at with_default layout_at layout_of new_type_name new_field_count new_field_name allowed_size allowed_default ended_type
 overlap_is_refused = refl
 
 count_is_refused : layout_fault count_text ≡ Some (fault.CountField 0 0)
-unfolding digits word_of fixed_of inside_of shape_of base_of type_text_of shape_in counted_fields without_count_default within_nesting without_overlap number_at signed_at text_behind text_at field_name_at field_type_at field_size_at field_offset_at default_at field_at fields_at type_name_at type_length_at field_count_at whole_type type_at types_at magic_at order_at pointer_at type_count_at with_default layout_at layout_of
+unfolding digits word_of fixed_of inside_of shape_of base_of type_text_of shape_in counted_fields without_count_default within_nesting without_overlap number_at signed_at text_behind text_at field_name_at field_type_at field_size_at field_offset_at default_at field_at fields_at type_name_at type_length_at field_count_at whole_type type_at types_at magic_at order_at pointer_at type_count_at with_default layout_at layout_of new_type_name new_field_count new_field_name allowed_size allowed_default ended_type
 count_is_refused = refl
 
 byte_more_is_refused : layout_fault (small ++ 0 ∷ []) ≡ Some (fault.Trailing 34)
-unfolding digits word_of fixed_of inside_of shape_of base_of type_text_of shape_in counted_fields without_count_default within_nesting without_overlap number_at signed_at text_behind text_at field_name_at field_type_at field_size_at field_offset_at default_at field_at fields_at type_name_at type_length_at field_count_at whole_type type_at types_at magic_at order_at pointer_at type_count_at with_default layout_at layout_of
+unfolding digits word_of fixed_of inside_of shape_of base_of type_text_of shape_in counted_fields without_count_default within_nesting without_overlap number_at signed_at text_behind text_at field_name_at field_type_at field_size_at field_offset_at default_at field_at fields_at type_name_at type_length_at field_count_at whole_type type_at types_at magic_at order_at pointer_at type_count_at with_default layout_at layout_of new_type_name new_field_count new_field_name allowed_size allowed_default ended_type
 byte_more_is_refused = refl
 
 byte_fewer_is_refused : layout_fault (take 33 small) ≡ Some (fault.Short 30)
-unfolding digits word_of fixed_of inside_of shape_of base_of type_text_of shape_in counted_fields without_count_default within_nesting without_overlap number_at signed_at text_behind text_at field_name_at field_type_at field_size_at field_offset_at default_at field_at fields_at type_name_at type_length_at field_count_at whole_type type_at types_at magic_at order_at pointer_at type_count_at with_default layout_at layout_of
+unfolding digits word_of fixed_of inside_of shape_of base_of type_text_of shape_in counted_fields without_count_default within_nesting without_overlap number_at signed_at text_behind text_at field_name_at field_type_at field_size_at field_offset_at default_at field_at fields_at type_name_at type_length_at field_count_at whole_type type_at types_at magic_at order_at pointer_at type_count_at with_default layout_at layout_of new_type_name new_field_count new_field_name allowed_size allowed_default ended_type
 byte_fewer_is_refused = refl
 
 zero_default_is_refused : layout_fault (with_default_bytes (replicate 16 0)) ≡ Some fault.Plain
-unfolding digits word_of fixed_of inside_of shape_of base_of type_text_of shape_in counted_fields without_count_default within_nesting without_overlap number_at signed_at text_behind text_at field_name_at field_type_at field_size_at field_offset_at default_at field_at fields_at type_name_at type_length_at field_count_at whole_type type_at types_at magic_at order_at pointer_at type_count_at with_default layout_at layout_of
+unfolding digits word_of fixed_of inside_of shape_of base_of type_text_of shape_in counted_fields without_count_default within_nesting without_overlap number_at signed_at text_behind text_at field_name_at field_type_at field_size_at field_offset_at default_at field_at fields_at type_name_at type_length_at field_count_at whole_type type_at types_at magic_at order_at pointer_at type_count_at with_default layout_at layout_of new_type_name new_field_count new_field_name allowed_size allowed_default ended_type
 zero_default_is_refused = refl
 
 great_default_is_refused : layout_fault (with_default_bytes (twelve_zeros ++ 128 ∷ 0 ∷ 0 ∷ 0 ∷ [])) ≡ Some (fault.Default 0 0)
-unfolding digits word_of fixed_of inside_of shape_of base_of type_text_of shape_in counted_fields without_count_default within_nesting without_overlap number_at signed_at text_behind text_at field_name_at field_type_at field_size_at field_offset_at default_at field_at fields_at type_name_at type_length_at field_count_at whole_type type_at types_at magic_at order_at pointer_at type_count_at with_default layout_at layout_of
+unfolding digits word_of fixed_of inside_of shape_of base_of type_text_of shape_in counted_fields without_count_default within_nesting without_overlap number_at signed_at text_behind text_at field_name_at field_type_at field_size_at field_offset_at default_at field_at fields_at type_name_at type_length_at field_count_at whole_type type_at types_at magic_at order_at pointer_at type_count_at with_default layout_at layout_of new_type_name new_field_count new_field_name allowed_size allowed_default ended_type
 great_default_is_refused = refl
 
 greatest_default_is_read : layout_fault (with_default_bytes (twelve_zeros ++ 127 ∷ 255 ∷ 255 ∷ 255 ∷ [])) ≡ None
-unfolding digits word_of fixed_of inside_of shape_of base_of type_text_of shape_in counted_fields without_count_default within_nesting without_overlap number_at signed_at text_behind text_at field_name_at field_type_at field_size_at field_offset_at default_at field_at fields_at type_name_at type_length_at field_count_at whole_type type_at types_at magic_at order_at pointer_at type_count_at with_default layout_at layout_of
+unfolding digits word_of fixed_of inside_of shape_of base_of type_text_of shape_in counted_fields without_count_default within_nesting without_overlap number_at signed_at text_behind text_at field_name_at field_type_at field_size_at field_offset_at default_at field_at fields_at type_name_at type_length_at field_count_at whole_type type_at types_at magic_at order_at pointer_at type_count_at with_default layout_at layout_of new_type_name new_field_count new_field_name allowed_size allowed_default ended_type
 greatest_default_is_read = refl

@@ -1,5 +1,5 @@
 -- Fields that are described are read again.
-use Rattle.std.proofs.Common.{◌≡◌, ℕ, ◌+◌, ◌-◌, ◌*◌, ◌^◌, ◌≤◌, ℤ, pos, ◌-ℤ◌, ◌≤ℤ◌, Bool, true, false, cond, inl, inr, List, [], ◌∷◌, ◌++◌, length, Some, Result, Ok, Err, refl, sym, ap, subst, ◌∙◌, append_assoc, arith}
+use Rattle.std.proofs.Common.{◌≡◌, ℕ, ◌+◌, ◌-◌, ◌*◌, ◌^◌, ◌≤◌, ℤ, pos, ◌-ℤ◌, ◌≤ℤ◌, Bool, true, false, cond, inl, inr, List, [], ◌∷◌, ◌++◌, length, Result, Ok, Err, refl, sym, ap, subst, ◌∙◌, append_assoc, arith}
 use Rattle.std.specs.Prelude.{nat_le}
 use Rattle.std.specs.Ordering.{int_eq}
 use Rattle.std.proofs.lemmas.Bool.{eqb-true, leb-true, or_cases}
@@ -17,16 +17,18 @@ use Rattle.evp_format.specs.declared.draft.DraftShape.{DraftShape}
 use Rattle.evp_format.specs.declared.field.Base.{Base}
 use Rattle.evp_format.specs.declared.field.Base.TheVariants.{Number, Text, Nested}
 use Rattle.evp_format.specs.declared.layout_fault.LayoutFault.{LayoutFault}
-use Rattle.evp_format.specs.declared.layout_fault.LayoutFault.TheVariants.{BadName, Twice, Size, Outside, Default}
+use Rattle.evp_format.specs.declared.layout_fault.LayoutFault.TheVariants.{Outside}
 use Rattle.evp_format.specs.declared.record_type.RecordType.{RecordType}
 use Rattle.evp_format.specs.Describing.{described_number, described_text, stated_number, base_word}
 use Rattle.evp_format.specs.Drafts.{has_field, nested_length, is_base_size, draft_extent, draft_of, is_single_number, may_default}
-use Rattle.evp_format.specs.Reading.{number_at, text_at, field_name_at, field_type_at, field_size_at, field_offset_at, default_at, field_at, fields_at}
+use Rattle.evp_format.specs.Parts.{new_field_name, allowed_size, allowed_default}
+use Rattle.evp_format.specs.Reading.{number_at, signed_at, text_at, field_name_at, field_type_at, field_size_at, field_offset_at, default_at, field_at, fields_at}
 use Rattle.evp_format.specs.Steps.{◌>>=◌}
 use Rattle.evp_format.specs.TypeText.{type_text_of}
 use Rattle.evp_format.specs.WellLaid.{IsNumberIn}
 use Rattle.evp_format.proofs.Again.{AreNamed, type_text_again, type_text_short}
 use Rattle.evp_format.proofs.DescribedFields.{draft_described, drafts_described, ArePlain}
+use Rattle.evp_format.proofs.Parts.{tested_again, field_name_again, size_again, default_again}
 use Rattle.evp_format.proofs.Places.{Stands, stands_front, stands_back, number_again, signed_again, text_again}
 use Rattle.evp_format.proofs.TypeTexts.{stated_shape_text}
 use Rattle.evp_format.proofs.WellLaidFormats.{Follows}
@@ -43,25 +45,20 @@ pub record AreEarlier (pointer : ℕ) (types : List RecordType) : Type 0 where
 name_again : (type : ℕ) (before : List DraftField) (bytes : List ℕ) (at : ℕ) (name : List ℕ) (next : ℕ) → text_at bytes at ≡ Ok (name, next) → is_name name ≡ true → has_field before name ≡ false
     → field_name_at type before bytes at ≡ Ok (name, next)
 unfolding field_name_at
-name_again type before bytes at name next read named fresh =
-    let tested : List ℕ × ℕ → Result (List ℕ × ℕ) LayoutFault = λ text. cond (has_field before text.0) (Err (Twice type (length before))) (Ok text) in
-    let both : List ℕ × ℕ → Result (List ℕ × ℕ) LayoutFault = λ text. cond (is_name text.0) (tested text) (Err (BadName type (Some (length before)))) in
-    ap (λ (r : Result (List ℕ × ℕ) LayoutFault). r >>= both) read
-    ∙ ap (λ (b : Bool). cond b (tested (name, next)) (Err (BadName type (Some (length before))))) named ∙ ap (λ (b : Bool). cond b (Err (Twice type (length before))) (Ok (name, next))) fresh
+name_again type before bytes at name next read named fresh = tested_again (text_at bytes at) (new_field_name type before) name next name read (field_name_again type before name named fresh)
 
 type_again : (earlier : List RecordType) (field : ℕ) (bytes : List ℕ) (at : ℕ) (base : Base) (shape : DraftShape) (text : List ℕ) (next : ℕ) → text_at bytes at ≡ Ok (text, next)
     → type_text_of earlier (length earlier) field text ≡ Ok (base, shape) → field_type_at earlier field bytes at ≡ Ok ((base, shape), next)
 unfolding field_type_at
 type_again earlier field bytes at base shape text next read said =
-    let with_text : List ℕ × ℕ → Result ((Base × DraftShape) × ℕ) LayoutFault = λ text. type_text_of earlier (length earlier) field text.0 >>= λ some. Ok (some, text.1) in
-    ap (λ (r : Result (List ℕ × ℕ) LayoutFault). r >>= with_text) read ∙ ap (λ (r : Result (Base × DraftShape) LayoutFault). r >>= λ some. Ok (some, next)) said
+    let meant : Base × DraftShape = (base, shape) in
+    tested_again (text_at bytes at) (type_text_of earlier (length earlier) field) text next meant read said
 
-size_again : (pointer : ℕ) (earlier : List RecordType) (field : ℕ) (base : Base) (bytes : List ℕ) (at size next : ℕ) → number_at 4 bytes at ≡ Ok (size, next) → is_base_size pointer earlier base size ≡ true
+field_size_again : (pointer : ℕ) (earlier : List RecordType) (field : ℕ) (base : Base) (bytes : List ℕ) (at size next : ℕ) → number_at 4 bytes at ≡ Ok (size, next) → is_base_size pointer earlier base size ≡ true
     → field_size_at pointer earlier field base bytes at ≡ Ok (size, next)
 unfolding field_size_at
-size_again pointer earlier field base bytes at size next read sized =
-    let tested : ℕ × ℕ → Result (ℕ × ℕ) LayoutFault = λ n. cond (is_base_size pointer earlier base n.0) (Ok n) (Err (Size (length earlier) field)) in
-    ap (λ (r : Result (ℕ × ℕ) LayoutFault). r >>= tested) read ∙ ap (λ (b : Bool). cond b (Ok (size, next)) (Err (Size (length earlier) field))) sized
+field_size_again pointer earlier field base bytes at size next read sized =
+    tested_again (number_at 4 bytes at) (allowed_size pointer earlier field base) size next size read (size_again pointer earlier field base size sized)
 
 offset_again : (type field taken room : ℕ) (bytes : List ℕ) (at offset next : ℕ) → number_at 4 bytes at ≡ Ok (offset, next) → nat_le (offset + taken) room ≡ true
     → field_offset_at type field taken room bytes at ≡ Ok (offset, next)
@@ -126,16 +123,15 @@ default_small pointer earlier base shape size n sized may = elim (or_cases (int_
   | inr single ↦ number_small base size n pointer earlier sized (single_number base shape size n single).1
 ]
 
-default_again : (stated : Bool) (type : ℕ) (field : DraftField) (number : ℕ) (bytes : List ℕ) (at : ℕ) (n : ℤ) (next : ℕ) → (stated ≡ false → n ≡ pos 0) → IsSmall n
+field_default_again : (stated : Bool) (type : ℕ) (field : DraftField) (number : ℕ) (bytes : List ℕ) (at : ℕ) (n : ℤ) (next : ℕ) → (stated ≡ false → n ≡ pos 0) → IsSmall n
     → may_default field.base field.shape field.size n ≡ true → Stands bytes at (stated_number stated n) next → default_at stated type field number bytes at ≡ Ok (n, next)
 unfolding default_at
-default_again false type field number bytes at n next plain small may stands =
+field_default_again false type field number bytes at n next plain small may stands =
     let end : next ≡ at = let is = stands.next_is in omega (arith, is) in
     let pair : ℤ → ℕ → Result (ℤ × ℕ) LayoutFault = λ n next. Ok (n, next) in
     ap (λ (m : ℤ). pair m at) (sym (plain refl)) ∙ ap (pair n) (sym end)
-default_again true type field number bytes at n next plain small may stands =
-    let tested : ℤ × ℕ → Result (ℤ × ℕ) LayoutFault = λ n. cond (may_default field.base field.shape field.size n.0) (Ok n) (Err (Default type number)) in
-    ap (λ (r : Result (ℤ × ℕ) LayoutFault). r >>= tested) (signed_again bytes at n next small.0 small.1 stands) ∙ ap (λ (b : Bool). cond b (Ok (n, next)) (Err (Default type number))) may
+field_default_again true type field number bytes at n next plain small may stands =
+    tested_again (signed_at bytes at) (allowed_default type number field) n next n (signed_again bytes at n next small.0 small.1 stands) (default_again type number field n may)
 
 -- ---- a field
 
@@ -172,11 +168,11 @@ field_again stated pointer earlier room before bytes at field next are small fol
     let name = name_again type before bytes at field.name n0 (text_again bytes at field.name n0 (omega (arith, short)) s0) is.named follows.fresh in
     let typed = type_again earlier number bytes n0 field.base field.shape text n1 (text_again bytes n0 text n1 (type_text_short earlier field.base field.shape are.names is.known is.shaped) s1)
     (type_text_again earlier type number field.base field.shape are.names is.known is.shaped) in
-    let size = size_again pointer earlier number field.base bytes n1 field.size n2 (number_again 4 bytes n1 field.size n2 (omega (arith, sized)) s2) is.sized in
+    let size = field_size_again pointer earlier number field.base bytes n1 field.size n2 (number_again 4 bytes n1 field.size n2 (omega (arith, sized)) s2) is.sized in
     let offset = offset_again type number (draft_extent pointer field.shape field.size) room bytes n2 field.offset n3 (number_again 4 bytes n2 field.offset n3 (omega (arith, inside, small)) s3) is.inside in
     let bounds = default_small pointer earlier field.base field.shape field.size field.fallback is.sized is.defaulted in
     let none : DraftField = draft_of field.name said field.size field.offset (pos 0) in
-    let fallback = default_again stated type none number bytes n3 field.fallback next plain bounds is.defaulted s4 in
+    let fallback = field_default_again stated type none number bytes n3 field.fallback next plain bounds is.defaulted s4 in
     let last : List ℕ × ℕ → (Base × DraftShape) × ℕ → ℕ × ℕ → ℕ × ℕ → ℤ × ℕ → Result (DraftField × ℕ) LayoutFault = λ name said size offset fallback. Ok (draft_of name.0 said.0 size.0 offset.0 fallback.0, fallback.1) in
     let with_offset : List ℕ × ℕ → (Base × DraftShape) × ℕ → ℕ × ℕ → ℕ × ℕ → Result (DraftField × ℕ) LayoutFault =
     λ name said size offset. default_at stated type (draft_of name.0 said.0 size.0 offset.0 (pos 0)) number bytes offset.1 >>= last name said size offset in

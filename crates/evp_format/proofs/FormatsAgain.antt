@@ -1,5 +1,5 @@
 -- A well laid format that is described is read again.
-use Rattle.std.proofs.Common.{◌≡◌, ℕ, zero, suc, ◌+◌, ◌<◌, ◌≤◌, pos, Bool, true, false, cond, ◌⊎◌, inl, inr, List, [], ◌∷◌, ◌++◌, length, take, Option, Some, None, Result, Ok, Err, codes, refl, sym, ap, subst, ◌∙◌, append_assoc, arith}
+use Rattle.std.proofs.Common.{◌≡◌, ℕ, zero, suc, ◌+◌, ◌<◌, ◌≤◌, pos, Bool, true, false, cond, ◌⊎◌, inl, inr, List, [], ◌∷◌, ◌++◌, length, take, Option, Some, Result, Ok, Err, codes, refl, sym, ap, subst, ◌∙◌, append_assoc, arith}
 use Rattle.std.specs.Prelude.{slice_get, ◌&&◌, not, nat_le, nat_lt}
 use Rattle.std.specs.Ordering.{int_eq}
 use Rattle.std.specs.List.{list_all}
@@ -14,36 +14,34 @@ use Rattle.evp_base.proofs.NameLemmas.{length-name}
 use Rattle.evp_format.specs.declared.draft.DraftField.{DraftField}
 use Rattle.evp_format.specs.declared.field.Field.{Field}
 use Rattle.evp_format.specs.declared.layout_fault.LayoutFault.{LayoutFault}
-use Rattle.evp_format.specs.declared.layout_fault.LayoutFault.TheVariants.{Short, Magic, Trailing, BadName, Limit, TypeTwice, CountDefault, Overlap, Plain}
-use Rattle.evp_format.specs.declared.layout_fault.Which.TheVariants.{Types, Fields, AllFields, Length, Nesting}
+use Rattle.evp_format.specs.declared.layout_fault.LayoutFault.TheVariants.{Short, Magic, Trailing, Limit, Overlap, Plain}
+use Rattle.evp_format.specs.declared.layout_fault.Which.TheVariants.{Types, Length}
 use Rattle.evp_format.specs.declared.record_type.RecordType.{RecordType}
 use Rattle.evp_format.specs.Bytes.{bytes_equal}
 use Rattle.evp_format.specs.Describing.{described_number, described_text, type_name, described_fields, described_type, described_types, all_default_zero, states_default, magic, order_number, describe}
-use Rattle.evp_format.specs.Drafts.{has_type, nested_length, type_of, depth_behind, without_count_default, within_nesting, without_overlap}
+use Rattle.evp_format.specs.Drafts.{has_type, nested_length, depth_behind, without_overlap}
 use Rattle.evp_format.specs.Layout.{Layout, layout_with}
+use Rattle.evp_format.specs.Parts.{new_type_name, new_field_count}
 use Rattle.evp_format.specs.Reading.{number_at, text_at, fields_at, type_name_at, type_length_at, field_count_at, whole_type, type_at, types_at, magic_at, order_at, pointer_at, type_count_at, with_default, layout_at, layout_of}
+use Rattle.evp_format.specs.SoFar.{MayFollow}
 use Rattle.evp_format.specs.Steps.{◌>>=◌, refused_by}
 use Rattle.evp_format.specs.Tree.{empty_tree}
 use Rattle.evp_format.specs.WellLaid.{is_reserved, IsLaidType, IsWellLaid, all_fields}
 use Rattle.evp_format.proofs.DescribedFields.{drafts_described, ArePlain}
 use Rattle.evp_format.proofs.FieldsAgain.{AreEarlier, fields_again}
+use Rattle.evp_format.proofs.Parts.{tested_again, type_name_again, field_count_again, ended_again}
 use Rattle.evp_format.proofs.Places.{Stands, stands_front, stands_back, number_again, text_again, cut_stands}
-use Rattle.evp_format.proofs.Pushed.{slice_get-some}
+use Rattle.evp_format.proofs.Pushed.{slice_get-some, slice_get-front}
 use Rattle.evp_format.proofs.StatedFields.{stated_all, length-stated_all, fields_described, AreKnown, laid_known, follow_each, counted_again, no_count_default, no_overlap, bytes_equal-false, slice_get-seam}
 use Rattle.evp_format.proofs.Trees.{get_or-trees}
 use Rattle.evp_format.proofs.WellLaidFormats.{all_fields-push}
 
 -- ---- a type
 
-type_name_again : (earlier : List RecordType) (bytes : List ℕ) (at : ℕ) (name : List ℕ) (next : ℕ) → text_at bytes at ≡ Ok (name, next) → is_name name ≡ true → is_reserved name ≡ false → has_type earlier name ≡ false
+name_again : (earlier : List RecordType) (bytes : List ℕ) (at : ℕ) (name : List ℕ) (next : ℕ) → text_at bytes at ≡ Ok (name, next) → is_name name ≡ true → is_reserved name ≡ false → has_type earlier name ≡ false
     → type_name_at earlier bytes at ≡ Ok (name, next)
 unfolding type_name_at
-type_name_again earlier bytes at name next read named free fresh =
-    let tested : List ℕ × ℕ → Result (List ℕ × ℕ) LayoutFault = λ text. cond (has_type earlier text.0) (Err (TypeTwice (length earlier))) (Ok text) in
-    let both : List ℕ × ℕ → Result (List ℕ × ℕ) LayoutFault = λ text. cond (is_name text.0 && not (is_reserved text.0)) (tested text) (Err (BadName (length earlier) None)) in
-    let good : (is_name name && not (is_reserved name)) ≡ true = rw (named, free) refl in
-    ap (λ (r : Result (List ℕ × ℕ) LayoutFault). r >>= both) read
-    ∙ ap (λ (b : Bool). cond b (tested (name, next)) (Err (BadName (length earlier) None))) good ∙ ap (λ (b : Bool). cond b (Err (TypeTwice (length earlier))) (Ok (name, next))) fresh
+name_again earlier bytes at name next read named free fresh = tested_again (text_at bytes at) (new_type_name earlier) name next name read (type_name_again earlier name named free fresh)
 
 type_length_again : (bytes : List ℕ) (at room next : ℕ) → number_at 4 bytes at ≡ Ok (room, next) → 1 ≤ room → room ≤ 65536 → type_length_at bytes at ≡ Ok (room, next)
 unfolding type_length_at
@@ -52,26 +50,19 @@ type_length_again bytes at room next read least most =
     let good : (nat_le 1 room && nat_le room 65536) ≡ true = rw (le-leb 1 room least, le-leb room 65536 most) refl in
     ap (λ (r : Result (ℕ × ℕ) LayoutFault). r >>= tested) read ∙ ap (λ (b : Bool). cond b (Ok (room, next)) (Err (Limit Length room))) good
 
-field_count_again : (so_far : ℕ) (bytes : List ℕ) (at count next : ℕ) → number_at 2 bytes at ≡ Ok (count, next) → 1 ≤ count → count ≤ 1024 → so_far + count ≤ 4096 → field_count_at so_far bytes at ≡ Ok (count, next)
+count_again : (so_far : ℕ) (bytes : List ℕ) (at count next : ℕ) → number_at 2 bytes at ≡ Ok (count, next) → 1 ≤ count → count ≤ 1024 → so_far + count ≤ 4096 → field_count_at so_far bytes at ≡ Ok (count, next)
 unfolding field_count_at
-field_count_again so_far bytes at count next read least most few =
-    let inner : ℕ × ℕ → Result (ℕ × ℕ) LayoutFault = λ n. cond (nat_le (so_far + n.0) 4096) (Ok n) (Err (Limit AllFields (so_far + n.0))) in
-    let tested : ℕ × ℕ → Result (ℕ × ℕ) LayoutFault = λ n. cond (nat_le 1 n.0 && nat_le n.0 1024) (inner n) (Err (Limit Fields n.0)) in
-    let good : (nat_le 1 count && nat_le count 1024) ≡ true = rw (le-leb 1 count least, le-leb count 1024 most) refl in
-    ap (λ (r : Result (ℕ × ℕ) LayoutFault). r >>= tested) read ∙ ap (λ (b : Bool). cond b (inner (count, next)) (Err (Limit Fields count))) good
-    ∙ ap (λ (b : Bool). cond b (Ok (count, next)) (Err (Limit AllFields (so_far + count)))) (le-leb (so_far + count) 4096 few)
+count_again so_far bytes at count next read least most few = tested_again (number_at 2 bytes at) (new_field_count so_far) count next count read (field_count_again so_far count least most few)
 
 whole_again : (pointer : ℕ) (earlier : List RecordType) (type : RecordType) → IsLaidType pointer earlier type → depth_behind earlier type ≤ 16
     → whole_type pointer earlier type.name type.length (stated_all type.fields type.fields) ≡ Ok type
-unfolding whole_type without_count_default within_nesting without_overlap
+unfolding whole_type without_overlap
 whole_again pointer earlier type laid shallow =
     let number = length earlier in
-    let finish : RecordType → Result RecordType LayoutFault = λ nested. without_overlap pointer number nested in
-    let deep : RecordType → Result RecordType LayoutFault = λ counted. within_nesting earlier counted >>= finish in
-    let with_fields : List Field → Result RecordType LayoutFault = λ fields. without_count_default number (type_of type.name type.length fields) >>= deep in
-    ap (λ (r : Result (List Field) LayoutFault). r >>= with_fields) (counted_again pointer earlier type number laid)
-    ∙ ap (λ (o : Option ℕ). refused_by o (λ k. CountDefault number k) type >>= deep) (no_count_default pointer earlier type laid)
-    ∙ ap (λ (b : Bool). cond b (Ok type) (Err (Limit Nesting (depth_behind earlier type))) >>= finish) (le-leb (depth_behind earlier type) 16 shallow)
+    let drafts = stated_all type.fields type.fields in
+    ap (λ (r : Result RecordType LayoutFault). r >>= without_overlap pointer number)
+    (ended_again earlier drafts type (counted_again type.fields number laid.names_differ (λ k field found. (laid.each_field k field found).shape_allowed))
+    (no_count_default type.fields (λ k field found. (laid.each_field k field found).default_allowed)) shallow)
     ∙ ap (λ (o : Option (ℕ × ℕ)). refused_by o (λ pair. Overlap number pair.0 pair.1) type) (no_overlap pointer earlier type laid)
 
 -- the fields' defaults are 0 unless they are stated
@@ -116,9 +107,9 @@ type_again stated pointer earlier more type bytes at next are laid fresh shallow
     let most = laid.length_allowed.1 in
     let some = laid.fields_allowed.0 in
     let many = laid.fields_allowed.1 in
-    let name = type_name_again earlier bytes at type.name n0 (text_again bytes at type.name n0 (omega (arith, short)) s0) laid.named laid.not_reserved fresh in
+    let name = name_again earlier bytes at type.name n0 (text_again bytes at type.name n0 (omega (arith, short)) s0) laid.named laid.not_reserved fresh in
     let room = type_length_again bytes n0 type.length n1 (number_again 4 bytes n0 type.length n1 (omega (arith, most)) s1) least most in
-    let count = field_count_again (all_fields earlier) bytes n1 (length all) n2 (number_again 2 bytes n1 (length all) n2 (omega (arith, many)) s2) some many few in
+    let count = count_again (all_fields earlier) bytes n1 (length all) n2 (number_again 2 bytes n1 (length all) n2 (omega (arith, many)) s2) some many few in
     let texts : d3 ≡ drafts_described stated earlier drafts = fields_described stated earlier more all all (known_from pointer earlier type [] all laid refl) in
     let stands = subst (λ (text : List ℕ). Stands bytes n2 text next) texts s3 in
     let read = fields_again stated pointer earlier type.length [] drafts bytes n2 next are most (follow_each pointer earlier type [] all laid refl) (plain_drafts stated all all plain) stands in
@@ -141,11 +132,6 @@ type_name-get [] k type found = absurd (cc)
 type_name-get (first ∷ types) zero type found = let same : first ≡ type = cc in ap (λ (t : RecordType). t.name) same
 type_name-get (first ∷ types) (suc k) type found = type_name-get types k type found
 
-slice_get-front : {A : Type 0} (xs ys : List A) (k : ℕ) (x : A) → slice_get xs k ≡ Some x → slice_get (xs ++ ys) k ≡ Some x
-slice_get-front [] ys k x found = absurd (cc)
-slice_get-front (z ∷ xs) ys zero x found = found
-slice_get-front (z ∷ xs) ys (suc k) x found = slice_get-front xs ys k x found
-
 nested_length_small : (types : List RecordType) (k : ℕ) → ((n : ℕ) (type : RecordType) → slice_get types n ≡ Some type → type.length ≤ 65536) → nested_length types k ≤ 65536
 nested_length_small [] k each = omega arith
 nested_length_small (first ∷ types) zero each = each 0 first refl
@@ -163,7 +149,7 @@ pub record Splits (layout : Layout) (front rest : List RecordType) : Type 0 wher
 front_at : (layout : Layout) (front rest : List RecordType) (k : ℕ) (type : RecordType) → Splits layout front rest → slice_get front k ≡ Some type → slice_get layout.types k ≡ Some type
 front_at layout front rest k type splits found = ap (λ (some : List RecordType). slice_get some k) splits.is ∙ slice_get-front front rest k type found
 
-are_earlier : (layout : Layout) (front rest : List RecordType) → Splits layout front rest → AreEarlier layout.pointer front
+pub are_earlier : (layout : Layout) (front rest : List RecordType) → Splits layout front rest → AreEarlier layout.pointer front
 are_earlier layout front rest splits = record {
   names = record {
     named = λ k below. let some = slice_get-some front k below in ap is_name (type_name-get front k some.0 some.1) ∙ (splits.laid.each_type k some.0 (front_at layout front rest k some.0 splits some.1)).named;
@@ -191,6 +177,27 @@ abbrev pub HavePlain : Bool → List RecordType → Type 0
 HavePlain stated [] = Unit {0}
 HavePlain stated (type ∷ types) = HasPlain stated type.fields × HavePlain stated types
 
+-- the first type of the rest may follow those in front
+pub may_follow : (layout : Layout) (front rest : List RecordType) (type : RecordType) → Splits layout front (type ∷ rest) → MayFollow layout.pointer front type
+may_follow layout front rest type splits =
+    let laid = splits.laid in
+    let at_seam : slice_get layout.types (length front) ≡ Some type = ap (λ (some : List RecordType). slice_get some (length front)) splits.is ∙ slice_get-seam front rest type in
+    let before : take (length front) layout.types ≡ front = ap (take (length front)) splits.is ∙ take_at front (type ∷ rest) (length front) refl in
+    let below = slice_get_within layout.types (length front) type at_seam in
+    let tree_is = get_or-trees layout.types (length front) type empty_tree at_seam in
+    let deep = laid.nesting_allowed (length front) below in
+    let most = all_fields-front (front ++ type ∷ []) rest in
+    let grown = all_fields-push front type in
+    let same = ap all_fields (splits.is ∙ sym (append_assoc front (type ∷ []) rest)) in
+    let limit = laid.fields_allowed in
+    record {
+      is = subst (λ (some : List RecordType). IsLaidType layout.pointer some type) before (laid.each_type (length front) type at_seam);
+      fresh = list_any-types front type.name (λ k other found.
+          bytes_equal-false other.name type.name (laid.names_differ k (length front) other type (slice_get_within front k other found) (front_at layout front (type ∷ rest) k other splits found) at_seam));
+      shallow = subst (λ (some : List RecordType). depth_behind some type ≤ 16) before (rw tree_is at deep);
+      few = omega (arith, most, grown, same, limit);
+    }
+
 types_again : (stated : Bool) (layout : Layout) (front rest : List RecordType) (bytes : List ℕ) (at next : ℕ) → Splits layout front rest → HavePlain stated rest
     → Stands bytes at (described_types stated layout.types rest) next → types_at (length rest) stated layout.pointer front bytes at ≡ Ok (layout.types, next)
 unfolding types_at
@@ -200,29 +207,16 @@ types_again stated layout front [] bytes at next splits plain stands =
     let pair : List RecordType → ℕ → Result (List RecordType × ℕ) LayoutFault = λ types next. Ok (types, next) in
     ap (λ (types : List RecordType). pair types at) same ∙ ap (pair layout.types) (sym end)
 types_again stated layout front (type ∷ rest) bytes at next splits plain stands =
-    let laid = splits.laid in
     let text = described_type stated layout.types type in
     let text_is : text ≡ described_type stated (front ++ type ∷ rest) type = ap (λ (types : List RecordType). described_type stated types type) splits.is in
     let s0 = stands_front bytes at text (described_types stated layout.types rest) next stands in
     let s1 = stands_back bytes at text (described_types stated layout.types rest) next stands in
     let n0 = at + length text in
-    let at_seam : slice_get layout.types (length front) ≡ Some type = ap (λ (some : List RecordType). slice_get some (length front)) splits.is ∙ slice_get-seam front rest type in
-    let before : take (length front) layout.types ≡ front = ap (take (length front)) splits.is ∙ take_at front (type ∷ rest) (length front) refl in
-    let is = subst (λ (some : List RecordType). IsLaidType layout.pointer some type) before (laid.each_type (length front) type at_seam) in
-    let fresh : has_type front type.name ≡ false = list_any-types front type.name (λ k other found.
-    bytes_equal-false other.name type.name (laid.names_differ k (length front) other type (slice_get_within front k other found) (front_at layout front (type ∷ rest) k other splits found) at_seam)) in
-    let below = slice_get_within layout.types (length front) type at_seam in
-    let tree_is = get_or-trees layout.types (length front) type empty_tree at_seam in
-    let deep = laid.nesting_allowed (length front) below in
-    let shallow : depth_behind front type ≤ 16 = subst (λ (some : List RecordType). depth_behind some type ≤ 16) before (rw tree_is at deep) in
+    let follows = may_follow layout front rest type splits in
     let together : front ++ type ∷ rest ≡ (front ++ type ∷ []) ++ rest = sym (append_assoc front (type ∷ []) rest) in
-    let few : all_fields front + length type.fields ≤ 4096 =
-    let most = all_fields-front (front ++ type ∷ []) rest in
-    let grown = all_fields-push front type in
-    let same = ap all_fields (splits.is ∙ together) in
-    let limit = laid.fields_allowed in omega (arith, most, grown, same, limit) in
-    let first = type_again stated layout.pointer front (type ∷ rest) type bytes at n0 (are_earlier layout front (type ∷ rest) splits) is fresh shallow few plain.0 (subst (λ (t : List ℕ). Stands bytes at t n0) text_is s0) in
-    let later = types_again stated layout (front ++ type ∷ []) rest bytes n0 next (record { laid = laid; is = splits.is ∙ together }) plain.1 s1 in
+    let first = type_again stated layout.pointer front (type ∷ rest) type bytes at n0 (are_earlier layout front (type ∷ rest) splits) follows.is follows.fresh follows.shallow follows.few plain.0
+    (subst (λ (t : List ℕ). Stands bytes at t n0) text_is s0) in
+    let later = types_again stated layout (front ++ type ∷ []) rest bytes n0 next (record { laid = splits.laid; is = splits.is ∙ together }) plain.1 s1 in
     let with_type : RecordType × ℕ → Result (List RecordType × ℕ) LayoutFault = λ type. types_at (length rest) stated layout.pointer (front ++ type.0 ∷ []) bytes type.1 in
     ap (λ (r : Result (RecordType × ℕ) LayoutFault). r >>= with_type) first ∙ later
 

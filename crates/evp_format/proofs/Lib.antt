@@ -10,6 +10,7 @@ mod Examples
 mod LeadExamples
 pub mod LeadFacts
 pub mod Lists
+pub mod Parts
 pub mod Paths
 pub mod Texts
 pub mod Trees
@@ -22,6 +23,7 @@ pub mod Names
 pub mod Places
 pub mod Pushed
 pub mod StatedFields
+pub mod KeptTypes
 pub mod TypeTexts
 pub mod WellLaidFormats
 pub mod WellLaidTypes

@@ -19,6 +19,12 @@ slice_get-some [] k below = absurd (omega arith)
 slice_get-some (x ∷ xs) zero below = (x, refl)
 slice_get-some (x ∷ xs) (suc k) below = slice_get-some xs k (omega arith)
 
+-- an element of the front is one of the whole
+pub slice_get-front : {A : Type 0} (xs ys : List A) (k : ℕ) (x : A) → slice_get xs k ≡ Some x → slice_get (xs ++ ys) k ≡ Some x
+slice_get-front [] ys k x found = absurd (cc)
+slice_get-front (z ∷ xs) ys zero x found = found
+slice_get-front (z ∷ xs) ys (suc k) x found = slice_get-front xs ys k x found
+
 -- what holds of each element holds of each of the longer list
 pub each-push : {A : Type 0} (P : ℕ → A → Type 0) (xs : List A) (x : A) → ((k : ℕ) (y : A) → slice_get xs k ≡ Some y → P k y) → P (length xs) x
     → (k : ℕ) (y : A) → slice_get (xs ++ x ∷ []) k ≡ Some y → P k y

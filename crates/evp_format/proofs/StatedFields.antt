@@ -30,7 +30,7 @@ use Rattle.evp_format.specs.Steps.{◌>>=◌}
 use Rattle.evp_format.specs.WellLaid.{HasBaseSize, HasShape, CountsElements, IsCountField, IsNumberIn, StatesDefault, IsLaidField, IsLaidType, AreApart, shape_extent, extent}
 use Rattle.evp_format.proofs.DescribedFields.{draft_described, drafts_described}
 use Rattle.evp_format.proofs.FieldsAgain.{FollowEach}
-use Rattle.evp_format.proofs.Pushed.{bytes_equal-true, bytes_equal-same}
+use Rattle.evp_format.proofs.Pushed.{bytes_equal-true, bytes_equal-same, slice_get-front}
 use Rattle.evp_format.proofs.TypeTexts.{stated_shape_text}
 use Rattle.evp_format.proofs.WellLaidTypes.{IsKnown, IsStatedShape, IsDraft, nested_length-some}
 
@@ -52,7 +52,7 @@ pub length-stated_all : (all fields : List Field) → length (stated_all all fie
 length-stated_all all [] = refl
 length-stated_all all (field ∷ fields) = ap suc (length-stated_all all fields)
 
-slice_get-stated : (all fields : List Field) (k : ℕ) (stated : DraftField) → slice_get (stated_all all fields) k ≡ Some stated → (field : Field) × (slice_get fields k ≡ Some field) × (stated_of all field ≡ stated)
+pub slice_get-stated : (all fields : List Field) (k : ℕ) (stated : DraftField) → slice_get (stated_all all fields) k ≡ Some stated → (field : Field) × (slice_get fields k ≡ Some field) × (stated_of all field ≡ stated)
 slice_get-stated all [] k stated found = absurd (cc)
 slice_get-stated all (field ∷ fields) zero stated found = (field, refl, cc)
 slice_get-stated all (field ∷ fields) (suc k) stated found = slice_get-stated all fields k stated found
@@ -113,12 +113,12 @@ laid_known pointer earlier (Number kind) size sized = tt
 laid_known pointer earlier Text size sized = tt
 laid_known pointer earlier (Nested k) size sized = slice_get_within earlier k sized.0 sized.1
 
-laid_sized : (pointer : ℕ) (earlier : List RecordType) (base : Base) (size : ℕ) → HasBaseSize pointer earlier base size → is_base_size pointer earlier base size ≡ true
+pub laid_sized : (pointer : ℕ) (earlier : List RecordType) (base : Base) (size : ℕ) → HasBaseSize pointer earlier base size → is_base_size pointer earlier base size ≡ true
 laid_sized pointer earlier (Number kind) size sized = sized
 laid_sized pointer earlier Text size sized = eq-eqb size pointer sized
 laid_sized pointer earlier (Nested k) size sized = eq-eqb size (nested_length earlier k) (sized.2 ∙ sym (nested_length-some earlier k sized.0 sized.1))
 
-laid_stated_shape : (all : List Field) (shape : Shape) → HasShape all shape → ((k : ℕ) (field : Field) → slice_get all k ≡ Some field → is_name field.name ≡ true) → IsStatedShape (stated_shape all shape)
+pub laid_stated_shape : (all : List Field) (shape : Shape) → HasShape all shape → ((k : ℕ) (field : Field) → slice_get all k ≡ Some field → is_name field.name ≡ true) → IsStatedShape (stated_shape all shape)
 laid_stated_shape all One laid named = tt
 laid_stated_shape all (Fixed n) laid named = laid
 laid_stated_shape all (Counted c) laid named = ap is_name (field_name-get all c laid.0 laid.1) ∙ named c laid.0 laid.1
@@ -145,7 +145,7 @@ or_second : (a b : Bool) → b ≡ true → (a || b) ≡ true
 or_second true b second = refl
 or_second false b second = second
 
-laid_may_default : (all : List Field) (k : ℕ) (field : Field) → (field.fallback ≡ pos 0) ⊎ StatesDefault all k field → may_default field.base (stated_shape all field.shape) field.size field.fallback ≡ true
+pub laid_may_default : (all : List Field) (k : ℕ) (field : Field) → (field.fallback ≡ pos 0) ⊎ StatesDefault all k field → may_default field.base (stated_shape all field.shape) field.size field.fallback ≡ true
 laid_may_default all k field (inl none) = ap (λ (b : Bool). b || is_single_number field.base (stated_shape all field.shape) field.size field.fallback) ((Decides-int_eq field.fallback (pos 0)).1 none)
 laid_may_default all k field (inr states) =
     or_second (int_eq field.fallback (pos 0)) (is_single_number field.base (stated_shape all field.shape) field.size field.fallback)
@@ -164,17 +164,12 @@ laid_draft pointer earlier room all k field named laid =
       defaulted = laid_may_default all k field laid.default_allowed;
     }
 
-list_any-false : {A : Type 0} (p : A → Bool) (xs : List A) → ((k : ℕ) (x : A) → slice_get xs k ≡ Some x → p x ≡ false) → list_any p xs ≡ false
+pub list_any-false : {A : Type 0} (p : A → Bool) (xs : List A) → ((k : ℕ) (x : A) → slice_get xs k ≡ Some x → p x ≡ false) → list_any p xs ≡ false
 list_any-false p [] none = refl
 list_any-false p (x ∷ xs) none = rw (none 0 x refl) (list_any-false p xs (λ k y found. none (suc k) y found))
 
 pub bytes_equal-false : (a b : List ℕ) → a ≢ b → bytes_equal a b ≡ false
 bytes_equal-false a b differ = elim (cases_Bool (bytes_equal a b)) [ inl equal ↦ absurd (differ (bytes_equal-true a b equal)) | inr other ↦ other ]
-
-slice_get-front : {A : Type 0} (xs ys : List A) (k : ℕ) (x : A) → slice_get xs k ≡ Some x → slice_get (xs ++ ys) k ≡ Some x
-slice_get-front [] ys k x found = absurd (cc)
-slice_get-front (z ∷ xs) ys zero x found = found
-slice_get-front (z ∷ xs) ys (suc k) x found = slice_get-front xs ys k x found
 
 pub slice_get-seam : {A : Type 0} (xs ys : List A) (x : A) → slice_get (xs ++ x ∷ ys) (length xs) ≡ Some x
 slice_get-seam [] ys x = refl
@@ -223,10 +218,12 @@ counts_may (Nested k) counts = absurd counts
 and_false_left : (a b : Bool) → a ≡ false → (a && b) ≡ false
 and_false_left a b none = rw none refl
 
-count_found : (pointer : ℕ) (earlier : List RecordType) (type : RecordType) (c : ℕ) → IsLaidType pointer earlier type → IsCountField type.fields c
-    → count_named (stated_all type.fields type.fields) (field_name type.fields c) ≡ Some c
-count_found pointer earlier type c laid counts =
-    let all = type.fields in
+-- the names of the fields differ
+abbrev pub NamesDiffer : List Field → Type 0
+NamesDiffer fields = (i j : ℕ) (field other : Field) → i < j → slice_get fields i ≡ Some field → slice_get fields j ≡ Some other → field.name ≢ other.name
+
+count_found : (all : List Field) (c : ℕ) → NamesDiffer all → IsCountField all c → count_named (stated_all all all) (field_name all c) ≡ Some c
+count_found all c differ counts =
     let field = counts.0 in
     let name = field_name-get all c field counts.1 in
     let here : 0 + c ≡ c = omega arith in
@@ -236,17 +233,16 @@ count_found pointer earlier type c laid counts =
     position_found (λ (d : DraftField). is_count_named d (field_name all c)) (stated_all all all) 0 c (stated_of all field) (stated-slice_get all all c field counts.1) passes
     (λ i e less found.
     let from = slice_get-stated all all i e found in
-    let differ = laid.names_differ i c from.0 field less from.1 counts.1 in
-    let other : bytes_equal e.name (field_name all c) ≡ false = ap (λ (d : DraftField). bytes_equal d.name (field_name all c)) (sym from.2) ∙ ap (bytes_equal from.0.name) name ∙ bytes_equal-false from.0.name field.name differ in
+    let unlike = differ i c from.0 field less from.1 counts.1 in
+    let other : bytes_equal e.name (field_name all c) ≡ false = ap (λ (d : DraftField). bytes_equal d.name (field_name all c)) (sym from.2) ∙ ap (bytes_equal from.0.name) name ∙ bytes_equal-false from.0.name field.name unlike in
     and_false_left (bytes_equal e.name (field_name all c)) (may_count e.base e.shape) other)
     ∙ ap (λ (n : ℕ). Some n) here
 
-shape_again : (pointer : ℕ) (earlier : List RecordType) (type : RecordType) (shape : Shape) → IsLaidType pointer earlier type → HasShape type.fields shape
-    → shape_in (stated_all type.fields type.fields) (stated_shape type.fields shape) ≡ Some shape
+shape_again : (all : List Field) (shape : Shape) → NamesDiffer all → HasShape all shape → shape_in (stated_all all all) (stated_shape all shape) ≡ Some shape
 unfolding shape_in
-shape_again pointer earlier type One laid has = refl
-shape_again pointer earlier type (Fixed n) laid has = refl
-shape_again pointer earlier type (Counted c) laid has = ap counted_by (count_found pointer earlier type c laid has)
+shape_again all One differ has = refl
+shape_again all (Fixed n) differ has = refl
+shape_again all (Counted c) differ has = ap counted_by (count_found all c differ has)
 
 counted_again_from : (number n : ℕ) (drafts : List DraftField) (all rest : List Field) → ((k : ℕ) (field : Field) → slice_get rest k ≡ Some field → shape_in drafts (stated_shape all field.shape) ≡ Some field.shape)
     → counted_fields number n drafts (stated_all all rest) ≡ Ok rest
@@ -258,10 +254,10 @@ counted_again_from number n drafts all (field ∷ rest) each =
     ap (λ (o : Option Shape). ok_or o (CountField number n) >>= with_shape) (each 0 field refl)
     ∙ ap (λ (r : Result (List Field) LayoutFault). r >>= λ others. Ok (field ∷ others)) later
 
-pub counted_again : (pointer : ℕ) (earlier : List RecordType) (type : RecordType) (number : ℕ) → IsLaidType pointer earlier type
-    → counted_fields number 0 (stated_all type.fields type.fields) (stated_all type.fields type.fields) ≡ Ok type.fields
-counted_again pointer earlier type number laid =
-    counted_again_from number 0 (stated_all type.fields type.fields) type.fields type.fields (λ k field found. shape_again pointer earlier type field.shape laid (laid.each_field k field found).shape_allowed)
+-- fields whose names differ and whose shapes are allowed are counted as they are
+pub counted_again : (all : List Field) (number : ℕ) → NamesDiffer all → ((k : ℕ) (field : Field) → slice_get all k ≡ Some field → HasShape all field.shape)
+    → counted_fields number 0 (stated_all all all) (stated_all all all) ≡ Ok all
+counted_again all number differ has = counted_again_from number 0 (stated_all all all) all all (λ k field found. shape_again all field.shape differ (has k field found))
 
 -- ---- defaults
 
@@ -288,11 +284,8 @@ none_with_default all n (field ∷ rest) each =
     let later = none_with_default all (n + 1) rest (λ k f found. let there : n + suc k ≡ n + 1 + k = omega arith in rw there at (each (suc k) f found)) in
     ap (λ (b : Bool). cond b (Some n) (count_with_default all (n + 1) rest)) first ∙ later
 
-none_at : (pointer : ℕ) (earlier : List RecordType) (type : RecordType) (k : ℕ) (field : Field) → IsLaidType pointer earlier type → slice_get type.fields k ≡ Some field → is_defaulted_count type.fields (0 + k) field ≡ false
-none_at pointer earlier type k field laid found = let here : 0 + k ≡ k = omega arith in rw here (not_defaulted type.fields k field (laid.each_field k field found).default_allowed)
-
-pub no_count_default : (pointer : ℕ) (earlier : List RecordType) (type : RecordType) → IsLaidType pointer earlier type → count_with_default type.fields 0 type.fields ≡ None
-no_count_default pointer earlier type laid = none_with_default type.fields 0 type.fields (λ k field found. none_at pointer earlier type k field laid found)
+pub no_count_default : (all : List Field) → ((k : ℕ) (field : Field) → slice_get all k ≡ Some field → (field.fallback ≡ pos 0) ⊎ StatesDefault all k field) → count_with_default all 0 all ≡ None
+no_count_default all allowed = none_with_default all 0 all (λ k field found. let here : 0 + k ≡ k = omega arith in rw here (not_defaulted all k field (allowed k field found)))
 
 -- ---- overlaps
 

@@ -1,6 +1,6 @@
 -- What is read part by part is a well laid format.
-use Rattle.std.proofs.Common.{◌≡◌, ℕ, zero, suc, ◌+◌, ◌<◌, ◌≤◌, ℤ, pos, Bool, true, false, cond, ◌⊎◌, inl, inr, List, [], ◌∷◌, ◌++◌, length, take, Option, Some, None, Result, Ok, Err, refl, sym, ap, subst, ◌∙◌, arith}
-use Rattle.std.specs.Prelude.{slice_get, ◌&&◌, not, nat_le, fold, map}
+use Rattle.std.proofs.Common.{◌≡◌, ◌≢◌, ℕ, zero, suc, ◌+◌, ◌<◌, ◌≤◌, ℤ, pos, Bool, true, false, cond, ◌⊎◌, inl, inr, List, [], ◌∷◌, ◌++◌, length, take, Some, None, Result, Ok, Err, refl, sym, ap, subst, ◌∙◌, arith}
+use Rattle.std.specs.Prelude.{slice_get, ◌&&◌, nat_le, fold, map}
 use Rattle.std.proofs.lemmas.Bool.{and_parts, leb-true}
 use Rattle.std.proofs.lemmas.List.{length-append, take-append-le, take_at}
 use Rattle.evp_base.specs.declared.order.Order.{Order}
@@ -8,53 +8,50 @@ use Rattle.evp_base.specs.Name.{is_name}
 use Rattle.evp_format.specs.declared.draft.DraftField.{DraftField}
 use Rattle.evp_format.specs.declared.draft.DraftShape.{DraftShape}
 use Rattle.evp_format.specs.declared.field.Base.{Base}
-use Rattle.evp_format.specs.declared.field.Field.{Field}
 use Rattle.evp_format.specs.declared.layout_fault.LayoutFault.{LayoutFault}
-use Rattle.evp_format.specs.declared.layout_fault.LayoutFault.TheVariants.{BadName, Twice, Size, Outside, Limit, TypeTwice, Default, CountDefault, Overlap}
-use Rattle.evp_format.specs.declared.layout_fault.Which.TheVariants.{Fields, AllFields, Length, Nesting}
+use Rattle.evp_format.specs.declared.layout_fault.LayoutFault.TheVariants.{Outside, Limit, Overlap}
+use Rattle.evp_format.specs.declared.layout_fault.Which.TheVariants.{Length}
 use Rattle.evp_format.specs.declared.record_type.RecordType.{RecordType}
 use Rattle.evp_format.specs.Bytes.{bytes_equal}
-use Rattle.evp_format.specs.Drafts.{has_field, has_type, is_base_size, draft_extent, draft_of, may_default, counted_fields, count_with_default, first_overlap, type_of, depth_behind, without_count_default, within_nesting, without_overlap}
+use Rattle.evp_format.specs.Drafts.{has_field, has_type, is_base_size, draft_extent, draft_of, may_default, first_overlap, depth_behind, without_overlap}
 use Rattle.evp_format.specs.Layout.{layout_with}
+use Rattle.evp_format.specs.Parts.{new_type_name, new_field_count, new_field_name, allowed_size, allowed_default, ended_type}
 use Rattle.evp_format.specs.Reading.{number_at, signed_at, text_at, field_name_at, field_type_at, field_size_at, field_offset_at, default_at, field_at, fields_at, type_name_at, type_length_at, field_count_at, whole_type, type_at, types_at}
-use Rattle.evp_format.specs.Steps.{◌>>=◌, refused_by}
+use Rattle.evp_format.specs.SoFar.{AreLaid, MayFollow}
+use Rattle.evp_format.specs.Steps.{◌>>=◌}
 use Rattle.evp_format.specs.Tree.{empty_tree}
 use Rattle.evp_format.specs.TypeText.{type_text_of}
 use Rattle.evp_format.specs.WellLaid.{is_reserved, IsLaidType, IsWellLaid, all_fields}
+use Rattle.evp_format.proofs.Parts.{read_tested, type_name_facts, field_name_facts, field_count_facts, size_facts, default_facts, Ended, ended_facts, refused_none}
 use Rattle.evp_format.proofs.Pushed.{slice_get-push, slice_get-some, list_any-none, bytes_equal-same}
 use Rattle.evp_format.proofs.Trees.{get_or-trees}
 use Rattle.evp_format.proofs.TypeTexts.{type_text_spelled}
-use Rattle.evp_format.proofs.WellLaidTypes.{bind_ok, passed, not_refused, passed_on, ok_is, IsKnown, IsStatedShape, IsDraft, AreDrafts, AreCounted, counted_each, laid_type}
+use Rattle.evp_format.proofs.WellLaidTypes.{bind_ok, passed, ok_is, IsKnown, IsStatedShape, IsDraft, AreDrafts, AreCounted, counted_each, laid_type}
 
 -- ---- the parts of a field
 
-field_name_facts : (type : ℕ) (before : List DraftField) (bytes : List ℕ) (at : ℕ) (name : List ℕ × ℕ) → field_name_at type before bytes at ≡ Ok name
+field_name_read : (type : ℕ) (before : List DraftField) (bytes : List ℕ) (at : ℕ) (name : List ℕ × ℕ) → field_name_at type before bytes at ≡ Ok name
     → (is_name name.0 ≡ true) × (has_field before name.0 ≡ false)
 unfolding field_name_at
-field_name_facts type before bytes at name e =
-    let tested : List ℕ × ℕ → Result (List ℕ × ℕ) LayoutFault = λ text. cond (has_field before text.0) (Err (Twice type (length before))) (Ok text) in
-    let text = bind_ok (text_at bytes at) (λ text. cond (is_name text.0) (tested text) (Err (BadName type (Some (length before))))) name e in
-    let named = passed_on (is_name text.0.0) (BadName type (Some (length before))) (tested text.0) name text.2 in
-    let fresh = not_refused (has_field before text.0.0) (Twice type (length before)) (Ok text.0) name named.1 in
-    subst (λ (n : List ℕ × ℕ). (is_name n.0 ≡ true) × (has_field before n.0 ≡ false)) (ok_is text.0 name fresh.1) (named.0, fresh.0)
+field_name_read type before bytes at name e =
+    let read = read_tested (text_at bytes at) (new_field_name type before) name e in
+    let facts = field_name_facts type before read.0 name.0 read.2 in
+    (facts.0, facts.1)
 
 field_type_facts : (earlier : List RecordType) (field : ℕ) (bytes : List ℕ) (at : ℕ) (said : (Base × DraftShape) × ℕ) → field_type_at earlier field bytes at ≡ Ok said
     → IsKnown earlier said.0.0 × IsStatedShape said.0.1
 unfolding field_type_at
 field_type_facts earlier field bytes at said e =
-    let text = bind_ok (text_at bytes at) (λ text. type_text_of earlier (length earlier) field text.0 >>= λ some. Ok (some, text.1)) said e in
-    let some = bind_ok (type_text_of earlier (length earlier) field text.0.0) (λ some. Ok (some, text.0.1)) said text.2 in
-    let spelled = type_text_spelled earlier (length earlier) field text.0.0 some.0 some.1 in
-    let made : (Base × DraftShape) × ℕ = (some.0, text.0.1) in
-    subst (λ (s : (Base × DraftShape) × ℕ). IsKnown earlier s.0.0 × IsStatedShape s.0.1) (ok_is made said some.2) (spelled.0, spelled.1)
+    let read = read_tested (text_at bytes at) (type_text_of earlier (length earlier) field) said e in
+    let spelled = type_text_spelled earlier (length earlier) field read.0 said.0 read.2 in
+    (spelled.0, spelled.1)
 
-field_size_facts : (pointer : ℕ) (earlier : List RecordType) (field : ℕ) (base : Base) (bytes : List ℕ) (at : ℕ) (size : ℕ × ℕ) → field_size_at pointer earlier field base bytes at ≡ Ok size
+field_size_read : (pointer : ℕ) (earlier : List RecordType) (field : ℕ) (base : Base) (bytes : List ℕ) (at : ℕ) (size : ℕ × ℕ) → field_size_at pointer earlier field base bytes at ≡ Ok size
     → is_base_size pointer earlier base size.0 ≡ true
 unfolding field_size_at
-field_size_facts pointer earlier field base bytes at size e =
-    let n = bind_ok (number_at 4 bytes at) (λ n. cond (is_base_size pointer earlier base n.0) (Ok n) (Err (Size (length earlier) field))) size e in
-    let fits = passed (is_base_size pointer earlier base n.0.0) (Size (length earlier) field) n.0 size n.2 in
-    subst (λ (s : ℕ × ℕ). is_base_size pointer earlier base s.0 ≡ true) fits.1 fits.0
+field_size_read pointer earlier field base bytes at size e =
+    let read = read_tested (number_at 4 bytes at) (allowed_size pointer earlier field base) size e in
+    (size_facts pointer earlier field base read.0 size.0 read.2).0
 
 field_offset_facts : (type field taken room : ℕ) (bytes : List ℕ) (at : ℕ) (offset : ℕ × ℕ) → field_offset_at type field taken room bytes at ≡ Ok offset
     → nat_le (offset.0 + taken) room ≡ true
@@ -64,16 +61,15 @@ field_offset_facts type field taken room bytes at offset e =
     let fits = passed (nat_le (n.0.0 + taken) room) (Outside type field) n.0 offset n.2 in
     subst (λ (s : ℕ × ℕ). nat_le (s.0 + taken) room ≡ true) fits.1 fits.0
 
-default_facts : (stated : Bool) (type : ℕ) (field : DraftField) (number : ℕ) (bytes : List ℕ) (at : ℕ) (fallback : ℤ × ℕ) → default_at stated type field number bytes at ≡ Ok fallback
+default_read : (stated : Bool) (type : ℕ) (field : DraftField) (number : ℕ) (bytes : List ℕ) (at : ℕ) (fallback : ℤ × ℕ) → default_at stated type field number bytes at ≡ Ok fallback
     → may_default field.base field.shape field.size fallback.0 ≡ true
 unfolding default_at
-default_facts false type field number bytes at fallback e =
+default_read false type field number bytes at fallback e =
     let none : ℤ × ℕ = (pos 0, at) in
     subst (λ (f : ℤ × ℕ). may_default field.base field.shape field.size f.0 ≡ true) (ok_is none fallback e) refl
-default_facts true type field number bytes at fallback e =
-    let n = bind_ok (signed_at bytes at) (λ n. cond (may_default field.base field.shape field.size n.0) (Ok n) (Err (Default type number))) fallback e in
-    let fits = passed (may_default field.base field.shape field.size n.0.0) (Default type number) n.0 fallback n.2 in
-    subst (λ (f : ℤ × ℕ). may_default field.base field.shape field.size f.0 ≡ true) fits.1 fits.0
+default_read true type field number bytes at fallback e =
+    let read = read_tested (signed_at bytes at) (allowed_default type number field) fallback e in
+    (default_facts type number field read.0 fallback.0 read.2).0
 
 -- ---- fields
 
@@ -101,16 +97,16 @@ field_facts stated pointer earlier room before bytes at field e =
     let offset = bind_ok (field_offset_at type number (draft_extent pointer said.0.0.1 size.0.0) room bytes size.0.1) (with_offset name.0 said.0 size.0) field size.2 in
     let fallback = bind_ok (default_at stated type (draft_of name.0.0 said.0.0 size.0.0 offset.0.0 (pos 0)) number bytes offset.0.1) (last name.0 said.0 size.0 offset.0) field offset.2 in
     let made : DraftField × ℕ = (draft_of name.0.0 said.0.0 size.0.0 offset.0.0 fallback.0.0, fallback.0.1) in
-    let named = field_name_facts type before bytes at name.0 name.1 in
+    let named = field_name_read type before bytes at name.0 name.1 in
     let typed = field_type_facts earlier number bytes name.0.1 said.0 said.1 in
     let follows : Follows pointer earlier room before made.0 = record {
       is = record {
         named = named.0;
         known = typed.0;
-        sized = field_size_facts pointer earlier number said.0.0.0 bytes said.0.1 size.0 size.1;
+        sized = field_size_read pointer earlier number said.0.0.0 bytes said.0.1 size.0 size.1;
         shaped = typed.1;
         inside = field_offset_facts type number (draft_extent pointer said.0.0.1 size.0.0) room bytes size.0.1 offset.0 offset.1;
-        defaulted = default_facts stated type (draft_of name.0.0 said.0.0 size.0.0 offset.0.0 (pos 0)) number bytes offset.0.1 fallback.0 fallback.1;
+        defaulted = default_read stated type (draft_of name.0.0 said.0.0 size.0.0 offset.0.0 (pos 0)) number bytes offset.0.1 fallback.0 fallback.1;
       };
       fresh = named.1;
     } in
@@ -157,16 +153,13 @@ fields_facts (suc count) stated pointer earlier room before bytes at fields e ar
 
 -- ---- the parts of a type
 
-type_name_facts : (earlier : List RecordType) (bytes : List ℕ) (at : ℕ) (name : List ℕ × ℕ) → type_name_at earlier bytes at ≡ Ok name
-    → (is_name name.0 ≡ true) × (not (is_reserved name.0) ≡ true) × (has_type earlier name.0 ≡ false)
+type_name_read : (earlier : List RecordType) (bytes : List ℕ) (at : ℕ) (name : List ℕ × ℕ) → type_name_at earlier bytes at ≡ Ok name
+    → (is_name name.0 ≡ true) × (is_reserved name.0 ≡ false) × (has_type earlier name.0 ≡ false)
 unfolding type_name_at
-type_name_facts earlier bytes at name e =
-    let tested : List ℕ × ℕ → Result (List ℕ × ℕ) LayoutFault = λ text. cond (has_type earlier text.0) (Err (TypeTwice (length earlier))) (Ok text) in
-    let text = bind_ok (text_at bytes at) (λ text. cond (is_name text.0 && not (is_reserved text.0)) (tested text) (Err (BadName (length earlier) None))) name e in
-    let named = passed_on (is_name text.0.0 && not (is_reserved text.0.0)) (BadName (length earlier) None) (tested text.0) name text.2 in
-    let fresh = not_refused (has_type earlier text.0.0) (TypeTwice (length earlier)) (Ok text.0) name named.1 in
-    let parts = and_parts (is_name text.0.0) (not (is_reserved text.0.0)) named.0 in
-    subst (λ (n : List ℕ × ℕ). (is_name n.0 ≡ true) × (not (is_reserved n.0) ≡ true) × (has_type earlier n.0 ≡ false)) (ok_is text.0 name fresh.1) (parts.0, parts.1, fresh.0)
+type_name_read earlier bytes at name e =
+    let read = read_tested (text_at bytes at) (new_type_name earlier) name e in
+    let facts = type_name_facts earlier read.0 name.0 read.2 in
+    (facts.0, facts.1, facts.2)
 
 type_length_facts : (bytes : List ℕ) (at : ℕ) (room : ℕ × ℕ) → type_length_at bytes at ≡ Ok room → (1 ≤ room.0) × (room.0 ≤ 65536)
 unfolding type_length_at
@@ -176,65 +169,32 @@ type_length_facts bytes at room e =
     let parts = and_parts (nat_le 1 n.0.0) (nat_le n.0.0 65536) fits.0 in
     subst (λ (r : ℕ × ℕ). (1 ≤ r.0) × (r.0 ≤ 65536)) fits.1 (leb-true 1 n.0.0 parts.0, leb-true n.0.0 65536 parts.1)
 
-field_count_facts : (so_far : ℕ) (bytes : List ℕ) (at : ℕ) (count : ℕ × ℕ) → field_count_at so_far bytes at ≡ Ok count → (1 ≤ count.0) × (count.0 ≤ 1024) × (so_far + count.0 ≤ 4096)
+field_count_read : (so_far : ℕ) (bytes : List ℕ) (at : ℕ) (count : ℕ × ℕ) → field_count_at so_far bytes at ≡ Ok count → (1 ≤ count.0) × (count.0 ≤ 1024) × (so_far + count.0 ≤ 4096)
 unfolding field_count_at
-field_count_facts so_far bytes at count e =
-    let tested : ℕ × ℕ → Result (ℕ × ℕ) LayoutFault = λ n. cond (nat_le (so_far + n.0) 4096) (Ok n) (Err (Limit AllFields (so_far + n.0))) in
-    let n = bind_ok (number_at 2 bytes at) (λ n. cond (nat_le 1 n.0 && nat_le n.0 1024) (tested n) (Err (Limit Fields n.0))) count e in
-    let some = passed_on (nat_le 1 n.0.0 && nat_le n.0.0 1024) (Limit Fields n.0.0) (tested n.0) count n.2 in
-    let few = passed (nat_le (so_far + n.0.0) 4096) (Limit AllFields (so_far + n.0.0)) n.0 count some.1 in
-    let parts = and_parts (nat_le 1 n.0.0) (nat_le n.0.0 1024) some.0 in
-    subst (λ (c : ℕ × ℕ). (1 ≤ c.0) × (c.0 ≤ 1024) × (so_far + c.0 ≤ 4096)) few.1 (leb-true 1 n.0.0 parts.0, leb-true n.0.0 1024 parts.1, leb-true (so_far + n.0.0) 4096 few.0)
-
-pub refused_none : {A B : Type 0} (o : Option A) (fault : A → LayoutFault) (x y : B) → refused_by o fault x ≡ Ok y → (o ≡ None) × (x ≡ y)
-refused_none None fault x y e = (refl, ok_is x y e)
-refused_none (Some reason) fault x y e = absurd (cc)
-
-pub not_true : (b : Bool) → not b ≡ true → b ≡ false
-not_true true e = absurd (cc)
-not_true false e = refl
-
--- what may follow these types
-pub record FollowsTypes (pointer : ℕ) (earlier : List RecordType) (type : RecordType) : Type 0 where
-  pub is : IsLaidType pointer earlier type
-  pub fresh : has_type earlier type.name ≡ false
-  pub shallow : depth_behind earlier type ≤ 16
-  pub few : all_fields earlier + length type.fields ≤ 4096
+field_count_read so_far bytes at count e =
+    let read = read_tested (number_at 2 bytes at) (new_field_count so_far) count e in
+    let facts = field_count_facts so_far read.0 count.0 read.2 in
+    (facts.0, facts.1, facts.2)
 
 -- a type is made of its fields, and nothing is refused where it ends
 pub record Ends (pointer : ℕ) (earlier : List RecordType) (name : List ℕ) (room : ℕ) (drafts : List DraftField) (type : RecordType) : Type 0 where
-  pub fields : List Field
-  pub counted : counted_fields (length earlier) 0 drafts drafts ≡ Ok fields
-  pub is : type_of name room fields ≡ type
-  pub without_default : count_with_default fields 0 fields ≡ None
-  pub shallow : depth_behind earlier type ≤ 16
-  pub apart : first_overlap pointer 0 fields ≡ None
+  pub ended : Ended earlier name room drafts type
+  pub apart : first_overlap pointer 0 type.fields ≡ None
 
 pub whole_type_ends : (pointer : ℕ) (earlier : List RecordType) (name : List ℕ) (room : ℕ) (drafts : List DraftField) (type : RecordType)
     → whole_type pointer earlier name room drafts ≡ Ok type → Ends pointer earlier name room drafts type
-unfolding whole_type without_count_default within_nesting without_overlap
+unfolding whole_type without_overlap
 whole_type_ends pointer earlier name room drafts type e =
     let number = length earlier in
-    let fields = bind_ok (counted_fields number 0 drafts drafts)
-    (λ fields. without_count_default number (type_of name room fields) >>= λ counted. within_nesting earlier counted >>= λ nested. without_overlap pointer number nested) type e in
-    let made = type_of name room fields.0 in
-    let counted = bind_ok (without_count_default number made) (λ counted. within_nesting earlier counted >>= λ nested. without_overlap pointer number nested) type fields.2 in
-    let nested = bind_ok (within_nesting earlier counted.0) (λ nested. without_overlap pointer number nested) type counted.2 in
-    let no_count = refused_none (count_with_default fields.0 0 fields.0) (λ k. CountDefault number k) made counted.0 counted.1 in
-    let shallow = passed (nat_le (depth_behind earlier counted.0) 16) (Limit Nesting (depth_behind earlier counted.0)) counted.0 nested.0 nested.1 in
-    let apart = refused_none (first_overlap pointer 0 nested.0.fields) (λ pair. Overlap number pair.0 pair.1) nested.0 type nested.2 in
-    let same : made ≡ nested.0 = no_count.1 ∙ shallow.1 in
+    let made = bind_ok (ended_type earlier name room drafts) (without_overlap pointer number) type e in
+    let apart = refused_none (first_overlap pointer 0 made.0.fields) (λ pair. Overlap number pair.0 pair.1) made.0 type made.2 in
     record {
-      fields = fields.0;
-      counted = fields.1;
-      is = same ∙ apart.1;
-      without_default = no_count.0;
-      shallow = subst (λ (t : RecordType). depth_behind earlier t ≤ 16) (shallow.1 ∙ apart.1) (leb-true (depth_behind earlier counted.0) 16 shallow.0);
-      apart = subst (λ (t : RecordType). first_overlap pointer 0 t.fields ≡ None) (sym same) apart.0;
+      ended = subst (Ended earlier name room drafts) apart.1 (ended_facts earlier name room drafts made.0 made.1);
+      apart = subst (λ (t : RecordType). first_overlap pointer 0 t.fields ≡ None) apart.1 apart.0;
     }
 
 pub type_facts : (stated : Bool) (pointer : ℕ) (earlier : List RecordType) (bytes : List ℕ) (at : ℕ) (type : RecordType × ℕ) → type_at stated pointer earlier bytes at ≡ Ok type
-    → FollowsTypes pointer earlier type.0
+    → MayFollow pointer earlier type.0
 unfolding type_at
 type_facts stated pointer earlier bytes at type e =
     let with_fields : List ℕ × ℕ → ℕ × ℕ → List DraftField × ℕ → Result (RecordType × ℕ) LayoutFault = λ name room fields. whole_type pointer earlier name.0 room.0 fields.0 >>= λ type. Ok (type, fields.1) in
@@ -247,40 +207,36 @@ type_facts stated pointer earlier bytes at type e =
     let fields = bind_ok (fields_at count.0.0 stated pointer earlier room.0.0 [] bytes count.0.1) (with_fields name.0 room.0) type count.2 in
     let whole = bind_ok (whole_type pointer earlier name.0.0 room.0.0 fields.0.0) (λ (type : RecordType). Ok (type, fields.0.1)) type fields.2 in
     let made : RecordType × ℕ = (whole.0, fields.0.1) in
-    let named = type_name_facts earlier bytes at name.0 name.1 in
+    let named = type_name_read earlier bytes at name.0 name.1 in
     let sized = type_length_facts bytes name.0.1 room.0 room.1 in
-    let few = field_count_facts (all_fields earlier) bytes room.0.1 count.0 count.1 in
+    let few = field_count_read (all_fields earlier) bytes room.0.1 count.0 count.1 in
     let drafts = fields_facts count.0.0 stated pointer earlier room.0.0 [] bytes count.0.1 fields.0 fields.1 (no_drafts pointer earlier room.0.0) in
     let ends = whole_type_ends pointer earlier name.0.0 room.0.0 fields.0.0 whole.0 whole.1 in
-    let each = counted_each (length earlier) 0 fields.0.0 fields.0.0 ends.fields ends.counted in
-    let counted : AreCounted fields.0.0 ends.fields = record { same_length = each.0; each = each.1 } in
+    let ended = ends.ended in
+    let each = counted_each (length earlier) 0 fields.0.0 fields.0.0 ended.fields ended.counted in
+    let counted : AreCounted fields.0.0 ended.fields = record { same_length = each.0; each = each.1 } in
     let number = drafts.1 in
     let least = few.0 in
     let most = few.1 in
     let all = few.2 in
     let same = each.0 in
-    let laid = laid_type pointer earlier name.0.0 room.0.0 fields.0.0 ends.fields named.0 (not_true (is_reserved name.0.0) named.1) sized.0 sized.1 (omega (arith, number, least)) (omega (arith, number, most)) drafts.0 counted ends.without_default ends.apart in
-    let follows : FollowsTypes pointer earlier whole.0 = record {
-      is = subst (IsLaidType pointer earlier) ends.is laid;
-      fresh = subst (λ (t : RecordType). has_type earlier t.name ≡ false) ends.is named.2;
-      shallow = ends.shallow;
-      few = subst (λ (t : RecordType). all_fields earlier + length t.fields ≤ 4096) ends.is (omega (arith, number, all, same));
+    let apart : first_overlap pointer 0 ended.fields ≡ None = ap (λ (t : RecordType). first_overlap pointer 0 t.fields) ended.is ∙ ends.apart in
+    let laid = laid_type pointer earlier name.0.0 room.0.0 fields.0.0 ended.fields named.0 named.1 sized.0 sized.1 (omega (arith, number, least)) (omega (arith, number, most)) drafts.0 counted ended.without_default apart in
+    let follows : MayFollow pointer earlier whole.0 = record {
+      is = subst (IsLaidType pointer earlier) ended.is laid;
+      fresh = subst (λ (t : RecordType). has_type earlier t.name ≡ false) ended.is named.2;
+      shallow = ended.shallow;
+      few = subst (λ (t : RecordType). all_fields earlier + length t.fields ≤ 4096) ended.is (omega (arith, number, all, same));
     } in
-    subst (λ (t : RecordType × ℕ). FollowsTypes pointer earlier t.0) (ok_is made type whole.2) follows
+    subst (λ (t : RecordType × ℕ). MayFollow pointer earlier t.0) (ok_is made type whole.2) follows
 
 -- ---- types
-
-pub record AreLaid (pointer : ℕ) (types : List RecordType) : Type 0 where
-  pub each : (k : ℕ) (type : RecordType) → slice_get types k ≡ Some type → IsLaidType pointer (take k types) type
-  pub shallow : (k : ℕ) (type : RecordType) → slice_get types k ≡ Some type → depth_behind (take k types) type ≤ 16
-  pub names_differ : (i j : ℕ) (type other : RecordType) → i < j → slice_get types i ≡ Some type → slice_get types j ≡ Some other → bytes_equal type.name other.name ≡ false
-  pub few : all_fields types ≤ 4096
 
 pub no_types : (pointer : ℕ) → AreLaid pointer []
 no_types pointer = record {
   each = λ k type found. absurd (cc);
   shallow = λ k type found. absurd (cc);
-  names_differ = λ i j type other below found found'. absurd (cc);
+  names_differ = λ i j type other below found found' same. absurd (cc);
   few = omega arith;
 }
 
@@ -299,7 +255,14 @@ before_old earlier type k below = let within : k ≤ length earlier = omega arit
 pub before_new : (earlier : List RecordType) (type : RecordType) (k : ℕ) → k ≡ length earlier → earlier ≡ take k (earlier ++ type ∷ [])
 before_new earlier type k last = sym (take_at earlier (type ∷ []) k (sym last))
 
-pub types_push : (pointer : ℕ) (earlier : List RecordType) (type : RecordType) → AreLaid pointer earlier → FollowsTypes pointer earlier type → AreLaid pointer (earlier ++ type ∷ [])
+-- a name that no earlier type has
+fresh_differs : (earlier : List RecordType) (name : List ℕ) (k : ℕ) (other : RecordType) → has_type earlier name ≡ false → slice_get earlier k ≡ Some other → other.name ≢ name
+fresh_differs earlier name k other fresh found same =
+    let none = list_any-none (λ (t : RecordType). bytes_equal t.name name) earlier k other fresh found in
+    let equal : bytes_equal other.name name ≡ true = ap (λ (n : List ℕ). bytes_equal n name) same ∙ bytes_equal-same name in
+    cc
+
+pub types_push : (pointer : ℕ) (earlier : List RecordType) (type : RecordType) → AreLaid pointer earlier → MayFollow pointer earlier type → AreLaid pointer (earlier ++ type ∷ [])
 types_push pointer earlier type are follows = record {
   each = λ k other found. elim (slice_get-push earlier type k other found) [
     | inl old ↦ subst (λ (some : List RecordType). IsLaidType pointer some other) (before_old earlier type k old.0) (are.each k other old.1)
@@ -309,14 +272,14 @@ types_push pointer earlier type are follows = record {
     | inl old ↦ subst (λ (some : List RecordType). depth_behind some other ≤ 16) (before_old earlier type k old.0) (are.shallow k other old.1)
     | inr new ↦ subst (λ (some : List RecordType). depth_behind some other ≤ 16) (before_new earlier type k new.0) (subst (λ (t : RecordType). depth_behind earlier t ≤ 16) new.1 follows.shallow)
   ];
-  names_differ = λ i j first second below found found'. elim (slice_get-push earlier type j second found') [
+  names_differ = λ i j first second below found found' same. elim (slice_get-push earlier type j second found') [
     | inl old ↦ elim (slice_get-push earlier type i first found) [
-      | inl older ↦ are.names_differ i j first second below older.1 old.1
-      | inr new ↦ absurd (let past = new.0 in let inside = old.0 in omega (arith, past, inside, below))
+      | inl older ↦ are.names_differ i j first second below older.1 old.1 same
+      | inr new ↦ let past = new.0 in let inside = old.0 in omega (arith, past, inside, below)
     ]
     | inr new ↦ elim (slice_get-push earlier type i first found) [
-      | inl older ↦ ap (λ (t : RecordType). bytes_equal first.name t.name) (sym new.1) ∙ list_any-none (λ (t : RecordType). bytes_equal t.name type.name) earlier i first follows.fresh older.1
-      | inr newer ↦ absurd (let past = newer.0 in let last = new.0 in omega (arith, past, last, below))
+      | inl older ↦ fresh_differs earlier type.name i first follows.fresh older.1 (same ∙ ap (λ (t : RecordType). t.name) (sym new.1))
+      | inr newer ↦ let past = newer.0 in let last = new.0 in omega (arith, past, last, below)
     ]
   ];
   few = let grown = all_fields-push earlier type in let few = follows.few in omega (arith, grown, few);
@@ -344,10 +307,7 @@ well_laid order pointer types allowed some few are = record {
   pointer_allowed = allowed;
   types_allowed = (some, few);
   fields_allowed = are.few;
-  names_differ = λ i j type other below found found' same.
-      let differ = are.names_differ i j type other below found found' in
-      let equal : bytes_equal type.name other.name ≡ true = ap (λ (n : List ℕ). bytes_equal type.name n) (sym same) ∙ bytes_equal-same type.name in
-      cc;
+  names_differ = are.names_differ;
   each_type = are.each;
   nesting_allowed = λ k below.
       let found = slice_get-some types k below in

@@ -1,24 +1,24 @@
 -- The first fault of a description, from left to right: each part is read and tested before the next. A part that is cut is a
 -- fault at the offset of its first byte. What is read is a value and the offset behind it.
-use Rattle.std.specs.Prelude.{ℕ, zero, suc, ◌+◌, ℤ, pos, Bool, true, false, not, ◌&&◌, nat_eq, nat_le, nat_lt, if◌then◌else◌, List, [], ◌∷◌, ◌++◌, length, take, Option, Some, None, Result, Ok, Err, codes}
+use Rattle.std.specs.Prelude.{ℕ, zero, suc, ◌+◌, ℤ, pos, Bool, true, false, not, ◌&&◌, nat_eq, nat_le, nat_lt, if◌then◌else◌, List, [], ◌∷◌, ◌++◌, length, take, Option, Result, Ok, Err, codes}
 use Rattle.evp_base.specs.declared.order.Order.{Order}
 use Rattle.evp_base.specs.declared.order.Order.TheVariants.{Little, Big}
-use Rattle.evp_base.specs.Name.{is_name}
 use Rattle.evp_base.specs.Numbers.{magnitude, twos_complement}
 use Rattle.evp_format.specs.declared.draft.DraftField.{DraftField}
 use Rattle.evp_format.specs.declared.draft.DraftShape.{DraftShape}
 use Rattle.evp_format.specs.declared.field.Base.{Base}
 use Rattle.evp_format.specs.declared.layout_fault.LayoutFault.{LayoutFault}
-use Rattle.evp_format.specs.declared.layout_fault.LayoutFault.TheVariants.{Short, Magic, ByteOrder, Pointer, Trailing, BadName, Twice, Size, Outside, Limit, TypeTwice, Default, Plain as PlainFault}
-use Rattle.evp_format.specs.declared.layout_fault.Which.TheVariants.{Types, Fields, AllFields, Length}
+use Rattle.evp_format.specs.declared.layout_fault.LayoutFault.TheVariants.{Short, Magic, ByteOrder, Pointer, Trailing, Outside, Limit, Plain as PlainFault}
+use Rattle.evp_format.specs.declared.layout_fault.Which.TheVariants.{Types, Length}
 use Rattle.evp_format.specs.declared.record_type.RecordType.{RecordType}
 use Rattle.evp_format.specs.Bytes.{bytes_at, bytes_equal}
 use Rattle.evp_format.specs.Describing.{states_default}
-use Rattle.evp_format.specs.Drafts.{has_field, has_type, is_base_size, draft_extent, draft_of, may_default, counted_fields, type_of, without_count_default, within_nesting, without_overlap}
+use Rattle.evp_format.specs.Drafts.{draft_extent, draft_of, without_overlap}
 use Rattle.evp_format.specs.Layout.{Layout, layout_with}
-use Rattle.evp_format.specs.Steps.{◌>>=◌, fault_of}
+use Rattle.evp_format.specs.Parts.{new_type_name, new_field_count, new_field_name, allowed_size, allowed_default, ended_type}
+use Rattle.evp_format.specs.Steps.{◌>>=◌, tested, fault_of}
 use Rattle.evp_format.specs.TypeText.{type_text_of}
-use Rattle.evp_format.specs.WellLaid.{is_reserved, all_fields}
+use Rattle.evp_format.specs.WellLaid.{all_fields}
 
 -- ---- parts
 
@@ -43,22 +43,15 @@ text_at bytes at = do
 
 -- a name, and that no earlier field of the type has it
 unfoldable pub field_name_at : ℕ → List DraftField → List ℕ → ℕ → Result (List ℕ × ℕ) LayoutFault
-field_name_at type before bytes at = do
-  name ← text_at bytes at
-  if is_name name.0 then (if has_field before name.0 then Err (Twice type (length before)) else Ok name) else Err (BadName type (Some (length before)))
+field_name_at type before bytes at = tested (text_at bytes at) (new_field_name type before)
 
 -- a type text: what it says
 unfoldable pub field_type_at : List RecordType → ℕ → List ℕ → ℕ → Result ((Base × DraftShape) × ℕ) LayoutFault
-field_type_at earlier field bytes at = do
-  text ← text_at bytes at
-  said ← type_text_of earlier (length earlier) field text.0
-  Ok (said, text.1)
+field_type_at earlier field bytes at = tested (text_at bytes at) (type_text_of earlier (length earlier) field)
 
 -- a size that the base may have
 unfoldable pub field_size_at : ℕ → List RecordType → ℕ → Base → List ℕ → ℕ → Result (ℕ × ℕ) LayoutFault
-field_size_at pointer earlier field base bytes at = do
-  size ← number_at 4 bytes at
-  if is_base_size pointer earlier base size.0 then Ok size else Err (Size (length earlier) field)
+field_size_at pointer earlier field base bytes at = tested (number_at 4 bytes at) (allowed_size pointer earlier field base)
 
 -- an offset from which the extent ends within the type's length
 unfoldable pub field_offset_at : ℕ → ℕ → ℕ → ℕ → List ℕ → ℕ → Result (ℕ × ℕ) LayoutFault
@@ -69,9 +62,7 @@ field_offset_at type field taken room bytes at = do
 -- a default that the field may have, where defaults are stated, else 0
 unfoldable pub default_at : Bool → ℕ → DraftField → ℕ → List ℕ → ℕ → Result (ℤ × ℕ) LayoutFault
 default_at false type field number bytes at = Ok (pos 0, at)
-default_at true type field number bytes at = do
-  n ← signed_at bytes at
-  if may_default field.base field.shape field.size n.0 then Ok n else Err (Default type number)
+default_at true type field number bytes at = tested (signed_at bytes at) (allowed_default type number field)
 
 -- a field of the type behind `earlier` that has `room` bytes, behind the fields `before`
 unfoldable pub field_at : Bool → ℕ → List RecordType → ℕ → List DraftField → List ℕ → ℕ → Result (DraftField × ℕ) LayoutFault
@@ -94,10 +85,7 @@ fields_at (suc count) stated pointer earlier room before bytes at = do
 
 -- a name that isn't reserved and that no earlier type has
 unfoldable pub type_name_at : List RecordType → List ℕ → ℕ → Result (List ℕ × ℕ) LayoutFault
-type_name_at earlier bytes at = do
-  name ← text_at bytes at
-  if is_name name.0 && not (is_reserved name.0) then (if has_type earlier name.0 then Err (TypeTwice (length earlier)) else Ok name)
-      else Err (BadName (length earlier) None)
+type_name_at earlier bytes at = tested (text_at bytes at) (new_type_name earlier)
 
 -- a length of 1 to 65,536
 unfoldable pub type_length_at : List ℕ → ℕ → Result (ℕ × ℕ) LayoutFault
@@ -107,18 +95,11 @@ type_length_at bytes at = do
 
 -- a number of fields from 1 to 1,024, with which all types have at most 4,096
 unfoldable pub field_count_at : ℕ → List ℕ → ℕ → Result (ℕ × ℕ) LayoutFault
-field_count_at so_far bytes at = do
-  count ← number_at 2 bytes at
-  if nat_le 1 count.0 && nat_le count.0 1024 then (if nat_le (so_far + count.0) 4096 then Ok count else Err (Limit AllFields (so_far + count.0)))
-      else Err (Limit Fields count.0)
+field_count_at so_far bytes at = tested (number_at 2 bytes at) (new_field_count so_far)
 
 -- what is tested where a type ends: its count fields, their defaults, the nesting, the overlaps
 unfoldable pub whole_type : ℕ → List RecordType → List ℕ → ℕ → List DraftField → Result RecordType LayoutFault
-whole_type pointer earlier name room drafts = do
-  fields ← counted_fields (length earlier) 0 drafts drafts
-  counted ← without_count_default (length earlier) (type_of name room fields)
-  nested ← within_nesting earlier counted
-  without_overlap pointer (length earlier) nested
+whole_type pointer earlier name room drafts = ended_type earlier name room drafts >>= without_overlap pointer (length earlier)
 
 -- a type behind these
 unfoldable pub type_at : Bool → ℕ → List RecordType → List ℕ → ℕ → Result (RecordType × ℕ) LayoutFault

@@ -1,5 +1,5 @@
 -- Steps of which each may be refused: the first refusal is the answer.
-use Rattle.std.specs.Prelude.{◌≡◌, ◌≢◌, Result, Ok, Err, Option, Some, None}
+use Rattle.std.specs.Prelude.{◌≡◌, ◌≢◌, ℕ, Result, Ok, Err, Option, Some, None}
 use Rattle.evp_format.specs.declared.layout_fault.LayoutFault.{LayoutFault}
 use Rattle.evp_format.specs.declared.layout_fault.LayoutFault.TheVariants.{Memory}
 
@@ -7,6 +7,10 @@ infixl 10 ◌>>=◌
 abbrev pub ◌>>=◌ : {A B : Type 0} → Result A LayoutFault → (A → Result B LayoutFault) → Result B LayoutFault
 (Ok x) >>= f = f x
 (Err fault) >>= f = Err fault
+
+-- what stands at an offset, tested: its value, and the offset behind it
+abbrev pub tested : {A B : Type 0} → Result (A × ℕ) LayoutFault → (A → Result B LayoutFault) → Result (B × ℕ) LayoutFault
+tested read test = read >>= λ x. test x.0 >>= λ y. Ok (y, x.1)
 
 -- what a call answered, seen by a view, is what the definition says
 abbrev pub Says : {X Y : Type 0} → (X → Y) → Result X LayoutFault → Result Y LayoutFault → Type 0

@@ -34,15 +34,15 @@ pub struct DraftField {
     pub fallback: i128,
 }
 
-/// Whether one of these fields has this name.
-pub fn has_field(fields: &[DraftField], name: Name) -> bool
+// Whether one of these fields has this name.
+pub(crate) fn has_field(fields: &[DraftField], name: Name) -> bool
     ensures { result ≡ has_field fields.now name }
 {
     fields.iter().any(|field| field.name == name)
 }
 
-/// Whether one of these types has this name.
-pub fn has_type(types: &[RecordType], name: Name) -> bool
+// Whether one of these types has this name.
+pub(crate) fn has_type(types: &[RecordType], name: Name) -> bool
     ensures { result ≡ has_type types.now name }
 {
     types.iter().any(|record_type| record_type.name == name)
@@ -50,7 +50,7 @@ pub fn has_type(types: &[RecordType], name: Name) -> bool
 
 /// Whether the base may have this size: 1, 2, 4 or 8 for a number (1 for a char), the pointer's for
 /// a string, its type's length for a record.
-pub fn is_base_size(pointer: u8, earlier: &[RecordType], base: Base, size: u32) -> bool
+pub(crate) fn is_base_size(pointer: u8, earlier: &[RecordType], base: Base, size: u32) -> bool
     ensures { result ≡ is_base_size pointer earlier.now base size }
 {
     match base {
@@ -62,7 +62,7 @@ pub fn is_base_size(pointer: u8, earlier: &[RecordType], base: Base, size: u32) 
 }
 
 /// The length of the type of this number, or 0 where there is none.
-pub fn nested_length(types: &[RecordType], number: u16) -> u32
+pub(crate) fn nested_length(types: &[RecordType], number: u16) -> u32
     ensures { result ≡ nested_length types.now number }
 {
     match types.get(usize::from(number)) {
@@ -72,7 +72,7 @@ pub fn nested_length(types: &[RecordType], number: u16) -> u32
 }
 
 /// Bytes that a stated field takes inside its record.
-pub fn draft_extent(pointer: u8, shape: &DraftShape, size: u32) -> u64
+pub(crate) fn draft_extent(pointer: u8, shape: &DraftShape, size: u32) -> u64
     ensures value { result ≡ draft_extent pointer shape.now size }
     ensures bound { result < 2 ^ 64 - 2 ^ 32 }
 {
@@ -85,7 +85,12 @@ pub fn draft_extent(pointer: u8, shape: &DraftShape, size: u32) -> u64
 
 /// Whether the field may have this default, unless it is a count: 0, or a number in its range if it
 /// is a single number.
-pub fn may_default(field: &DraftField, fallback: i128, pointer: u8, earlier: &[RecordType]) -> bool
+pub(crate) fn may_default(
+    field: &DraftField,
+    fallback: i128,
+    pointer: u8,
+    earlier: &[RecordType],
+) -> bool
     requires { IsTrue (is_base_size pointer earlier.now field.now.base field.now.size) }
     ensures { result ≡ may_default field.now.base field.now.shape field.now.size fallback }
 {
@@ -109,7 +114,7 @@ pub(crate) fn may_count(base: Base, shape: DraftShape) -> bool
 }
 
 /// A field of these parts.
-pub fn draft_of(
+pub(crate) fn draft_of(
     name: Name,
     said: &(Base, DraftShape),
     size: u32,

@@ -1,9 +1,13 @@
 //! Why bytes describe no format, or declared types have no layout.
 
-ghost use Rattle.std.specs.Prelude.{◌≡◌};
+ghost use Rattle.std.specs.Prelude.{◌≡◌, Some};
+ghost use Rattle.std.specs.Fmt.{WritesOnOk};
 ghost use Rattle.evp_format.specs.declared.layout_fault.LayoutFault.TheVariants.{Memory};
+ghost use Rattle.evp_format.specs.FaultText.{at_field, which_text, layout_fault_text};
 
 use std::alloc::{AllocError, AllocFailed};
+use std::error::Error;
+use std::fmt;
 
 /// A number that has a limit.
 #[derive(Clone, Copy, Debug, PartialEq, Eq)]
@@ -74,6 +78,66 @@ impl From<evp_base::Memory> for LayoutFault {
         LayoutFault::Memory
     }
 }
+
+impl fmt::Display for Which {
+    ghost output = { λ which. Some (which_text which) };
+
+    fn fmt<W: fmt::Write>(&self, f: &mut fmt::Formatter<W>) -> fmt::Result {
+        match self {
+            Which::Types => f.write_str("types"),
+            Which::Fields => f.write_str("fields"),
+            Which::AllFields => f.write_str("all fields"),
+            Which::Nesting => f.write_str("nesting"),
+            Which::Length => f.write_str("length"),
+        }
+    }
+}
+
+impl fmt::Display for LayoutFault {
+    ghost output = { λ fault. Some (layout_fault_text fault) };
+
+    fn fmt<W: fmt::Write>(&self, f: &mut fmt::Formatter<W>) -> fmt::Result {
+        match *self {
+            LayoutFault::Short(at) => write!(f, "short at {at}"),
+            LayoutFault::Magic => f.write_str("magic"),
+            LayoutFault::ByteOrder => f.write_str("byte order"),
+            LayoutFault::Pointer => f.write_str("pointer size"),
+            LayoutFault::Trailing(at) => write!(f, "trailing at {at}"),
+            LayoutFault::BadName(number, None) => write!(f, "bad name, type {number}"),
+            LayoutFault::BadName(number, Some(field)) => at_field(f, "bad name", number, field),
+            LayoutFault::Twice(number, field) => at_field(f, "field twice", number, field),
+            LayoutFault::TypeText(number, field) => at_field(f, "type text", number, field),
+            LayoutFault::Float(number, field) => at_field(f, "float", number, field),
+            LayoutFault::UnknownType(number, field) => at_field(f, "unknown type", number, field),
+            LayoutFault::Size(number, field) => at_field(f, "size", number, field),
+            LayoutFault::Outside(number, field) => at_field(f, "outside", number, field),
+            LayoutFault::CountField(number, field) => at_field(f, "count field", number, field),
+            LayoutFault::Overlap(number, field, other) => {
+                write!(f, "overlap, type {number} fields {field} and {other}")
+            }
+            LayoutFault::Limit(which, number) => write!(f, "limit {which}: {number}"),
+            LayoutFault::TypeTwice(number) => write!(f, "type twice, type {number}"),
+            LayoutFault::Default(number, field) => at_field(f, "default", number, field),
+            LayoutFault::CountDefault(number, field) => at_field(f, "count default", number, field),
+            LayoutFault::Plain => f.write_str("plain"),
+            LayoutFault::Memory => f.write_str("memory"),
+        }
+    }
+}
+
+// What is wrong with a field, and the numbers of its type and its own.
+fn at_field<W: fmt::Write>(
+    f: &mut fmt::Formatter<W>,
+    what: &str,
+    type_number: u16,
+    field: u16,
+) -> fmt::Result
+    ensures { WritesOnOk W.write_str_gives f.old result (at_field what.now type_number field) f.new }
+{
+    write!(f, "{what}, type {type_number} field {field}")
+}
+
+impl Error for LayoutFault {}
 
 impl From<AllocError> for LayoutFault {
     ghost from_gives = { λ _ fault. fault ≡ Memory };

@@ -17,6 +17,7 @@ mod path;
 mod place;
 mod record_type;
 mod type_text;
+mod types_so_far;
 mod value;
 mod whole_type;
 
@@ -26,10 +27,7 @@ pub use clash::clash_of;
 pub use description::{
     descriptions_are_distinct, faults_are_exact, read_description, write_description,
 };
-pub use draft::{
-    DraftField, DraftShape, draft_extent, draft_of, has_field, has_type, is_base_size, may_default,
-    nested_length,
-};
+pub use draft::{DraftField, DraftShape};
 pub use field::{Base, Field, Shape};
 pub use format::Format;
 pub use format_id::{FormatId, id_of};
@@ -39,11 +37,8 @@ pub use lead::{Count, Inside, Lead, Run};
 pub use path::path_of;
 pub use place::{Place, PlaceStep};
 pub use record_type::{Fields, RecordType};
-pub use type_text::{type_name_of, type_text_of};
+pub use types_so_far::TypesSoFar;
 pub use value::{Items, Members, TextBytes, Value};
-pub use whole_type::{
-    count_with_default, counted_fields, depth_behind, refuse_count_default, refuse_nesting,
-};
 
 #[cfg(test)]
 mod tests;

@@ -21,13 +21,9 @@ pub(crate) enum Word {
     Named(Name),
 }
 
-/// The base and the shape that a type text says, behind these types: the text is a word (`integer`,
-/// `unsigned integer`, `char`, `boolean`, `enumeration`, `string`, or the name of an earlier type),
-/// and behind it nothing, a number of elements from 1 to 65,536 in brackets, or the name of the
-/// field that counts them. The first of these faults: `TypeText` where the text isn't of this form,
-/// `Float` where its word is `float`, `UnknownType` where no earlier type has the name.
+/// The base and the shape that a type text says, behind these types.
 #[tactic(auto, unfolding(crate::specs::TypeText::type_text_of))]
-pub fn type_text_of(
+pub(crate) fn type_text_of(
     text: &[u8],
     earlier: &[RecordType],
     type_number: u16,
@@ -208,7 +204,7 @@ fn type_named(types: &[RecordType], name: Name) -> Option<u16>
 }
 
 /// A record type's name, if the text is one: no reserved word.
-pub fn type_name_of(text: &[u8]) -> Option<Name>
+pub(crate) fn type_name_of(text: &[u8]) -> Option<Name>
     ensures { SomeIff result (IsTrue (is_name text.now && not (is_reserved text.now))) text.now }
 {
     if is_reserved(text) {

@@ -2,18 +2,17 @@
 
 ghost use Rattle.std.specs.Prelude.{◌≡◌, ◌+◌, ◌*◌, ◌-◌, ◌^◌, ◌<◌, ◌≤◌, ◌≢◌, ℕ, [], List, Option, length, IfOk, IfSome, IsTrue, map, All};
 ghost use Rattle.evp_format.specs.Drafts.{shape_in, field_with, counted_fields, count_named, is_count_named, is_count, is_counted_by, is_defaulted_count, count_with_default, are_apart, overlap_with, first_overlap, without_count_default, within_nesting, without_overlap};
-ghost use Rattle.evp_format.specs.Reading.{whole_type};
 ghost use Rattle.evp_format.specs.Steps.{Gives, Says};
 ghost use Rattle.evp_format.specs.Tree.{Tree, trees, tree, branches_of, part_of};
 ghost use Rattle.evp_format.specs.WellLaid.{depth, part_depth, extent};
 
 use crate::draft::may_count;
-use crate::{Base, DraftField, DraftShape, Field, Fields, LayoutFault, RecordType, Shape, Which};
+use crate::{Base, DraftField, DraftShape, Field, LayoutFault, RecordType, Shape, Which};
 use evp_base::Name;
 use std::alloc::Global;
 
 /// The fields with each count field's number in place of its name, or the first array without one.
-pub fn counted_fields(
+pub(crate) fn counted_fields(
     alloc: Global,
     type_number: u16,
     drafts: &[DraftField],
@@ -82,8 +81,8 @@ fn is_count_named(draft: &DraftField, name: Name) -> bool
     draft.name == name && may_count(draft.base, draft.shape)
 }
 
-/// The number of the first count whose default isn't 0.
-pub fn count_with_default(fields: &[Field]) -> Option<u16>
+// The number of the first count whose default isn't 0.
+fn count_with_default(fields: &[Field]) -> Option<u16>
     requires { length fields.now ≤ 1024 }
     ensures { result ≡ count_with_default fields.now 0 fields.now }
 {
@@ -122,7 +121,7 @@ fn is_counted_by(shape: Shape, number: u16) -> bool
 }
 
 /// How deep a type of these fields nests, where the earlier types nest so deep.
-pub fn depth_behind(fields: &[Field], depths: &[u8]) -> u8
+pub(crate) fn depth_behind(fields: &[Field], depths: &[u8]) -> u8
     requires { All (λ depth. depth ≤ 16) depths.now }
     ensures value { (trees : List Tree) (room : ℕ) → depths.now ≡ map depth trees → result ≡ depth (tree room (branches_of trees fields.now)) }
     ensures bound { result ≤ 17 }
@@ -152,8 +151,8 @@ fn nested_depth(base: Base, depths: &[u8]) -> u8
     }
 }
 
-/// The first pair of fields that have bytes in common: by the first, and then by the second.
-pub(crate) fn first_overlap(pointer: u8, fields: &[Field]) -> Option<(u16, u16)>
+// The first pair of fields that have bytes in common: by the first, and then by the second.
+fn first_overlap(pointer: u8, fields: &[Field]) -> Option<(u16, u16)>
     requires { length fields.now ≤ 1024 }
     ensures { result ≡ first_overlap pointer 0 fields.now }
 {
@@ -190,17 +189,12 @@ fn are_apart(pointer: u8, field: &Field, other: &Field) -> bool
 fn end_of(pointer: u8, field: &Field) -> u64
     ensures { result ≡ field.now.offset + extent pointer field.now }
 {
-    u64::from(field.offset)
-        + match field.shape {
-            Shape::One => u64::from(field.size),
-            Shape::Fixed(count) => u64::from(count) * u64::from(field.size),
-            Shape::Counted(_) => u64::from(pointer),
-        }
+    u64::from(field.offset) + field.extent(pointer)
 }
 
 /// Refused where a count's default isn't 0.
 #[tactic(auto, unfolding(crate::specs::Drafts::without_count_default))]
-pub fn refuse_count_default(number: u16, record_type: &RecordType) -> Result<(), LayoutFault>
+pub(crate) fn refuse_count_default(number: u16, record_type: &RecordType) -> Result<(), LayoutFault>
     requires { length record_type.now.fields ≤ 1024 }
     ensures { Says (λ _. record_type.now) result (without_count_default number record_type.now) }
 {
@@ -212,7 +206,7 @@ pub fn refuse_count_default(number: u16, record_type: &RecordType) -> Result<(),
 
 /// Refused where the type nests deeper than 16.
 #[tactic(auto, unfolding(crate::specs::Drafts::within_nesting))]
-pub fn refuse_nesting(
+pub(crate) fn refuse_nesting(
     record_type: &RecordType,
     earlier: &[RecordType],
     depths: &[u8],
@@ -229,9 +223,13 @@ pub fn refuse_nesting(
     }
 }
 
-// Refused where two fields have bytes in common.
+/// Refused where two fields have bytes in common.
 #[tactic(auto, unfolding(crate::specs::Drafts::without_overlap))]
-fn refuse_overlap(pointer: u8, number: u16, record_type: &RecordType) -> Result<(), LayoutFault>
+pub(crate) fn refuse_overlap(
+    pointer: u8,
+    number: u16,
+    record_type: &RecordType,
+) -> Result<(), LayoutFault>
     requires { length record_type.now.fields ≤ 1024 }
     ensures { Says (λ _. record_type.now) result (without_overlap pointer number record_type.now) }
 {
@@ -239,35 +237,4 @@ fn refuse_overlap(pointer: u8, number: u16, record_type: &RecordType) -> Result<
         Some((field, other)) => Err(LayoutFault::Overlap(number, field, other)),
         None => Ok(()),
     }
-}
-
-/// The type of these fields, or the first fault that shows where it ends.
-#[tactic(auto, unfolding(crate::specs::Reading::whole_type))]
-pub(crate) fn whole_type(
-    alloc: Global,
-    pointer: u8,
-    earlier: &[RecordType],
-    depths: &[u8],
-    name: Name,
-    room: u32,
-    drafts: &[DraftField],
-) -> Result<RecordType, LayoutFault>
-    requires few { length drafts.now ≤ 1024 }
-    requires types { length earlier.now ≤ 64 }
-    requires nested { depths.now ≡ map depth (trees earlier.now) }
-    requires shallow { All (λ depth. depth ≤ 16) depths.now }
-    ensures value { Gives (λ made. made) result (whole_type pointer earlier.now name room drafts.now) }
-    ensures number { IfOk result (λ made. length made.fields ≡ length drafts.now) }
-{
-    let number = earlier.len() as u16;
-    let fields = counted_fields(alloc, number, drafts)?;
-    let record_type = RecordType {
-        name,
-        length: room,
-        fields: Fields::from_vec(fields),
-    };
-    refuse_count_default(number, &record_type)?;
-    refuse_nesting(&record_type, earlier, depths)?;
-    refuse_overlap(pointer, number, &record_type)?;
-    Ok(record_type)
 }

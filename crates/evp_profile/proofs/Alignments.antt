@@ -1,10 +1,10 @@
 -- Alignments are never 0, and a loop finds the greatest.
-use Rattle.std.proofs.Common.{◌≡◌, ℕ, zero, suc, ◌+◌, ◌<◌, ◌≤◌, List, [], ◌∷◌, ◌++◌, length, get_or, take, max, map, refl, sym, ap, ◌∙◌, arith}
+use Rattle.std.proofs.Common.{◌≡◌, ℕ, ◌+◌, ◌<◌, ◌≤◌, List, [], ◌∷◌, ◌++◌, length, get_or, take, max, sym, ap, ◌∙◌, arith}
 use Rattle.std.proofs.lemmas.List.{take_more}
 use Rattle.evp_format.specs.declared.field.Field.{Field}
-use Rattle.evp_format.specs.Tree.{Tree, tree, Branches, no_fields, branch, empty_tree, branches_of, part_of}
+use Rattle.evp_format.specs.Tree.{Tree, tree, Branches, no_fields, branch}
 use Rattle.evp_profile.specs.declared.profile.Profile.{Profile}
-use Rattle.evp_profile.specs.Alignment.{alignment, branches_alignment, part_alignment, shape_alignment, field_alignment, fields_alignment}
+use Rattle.evp_profile.specs.Alignment.{alignment, branches_alignment, field_alignment, fields_alignment}
 
 pub branches_alignment_positive : (profile : Profile) (branches : Branches) → 1 ≤ branches_alignment profile branches
 branches_alignment_positive profile no_fields = omega arith

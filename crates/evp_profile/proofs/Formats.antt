@@ -1,12 +1,12 @@
 -- The format of declared types, once their number is known.
-use Rattle.std.proofs.Common.{◌≡◌, ℕ, ◌<◌, ◌≤◌, Bool, true, false, ◌⊎◌, inl, inr, List, [], length, Result, Ok, Err, refl, ap, ◌∙◌, arith}
+use Rattle.std.proofs.Common.{◌≡◌, ℕ, ◌<◌, ◌≤◌, Bool, true, false, List, [], length, Result, Ok, Err, refl, ap, ◌∙◌}
 use Rattle.std.specs.Prelude.{nat_le, ◌&&◌}
 use Rattle.std.proofs.lemmas.Bool.{le-leb}
 use Rattle.evp_format.specs.declared.layout_fault.LayoutFault.{LayoutFault}
 use Rattle.evp_format.specs.declared.layout_fault.LayoutFault.TheVariants.{Limit}
 use Rattle.evp_format.specs.declared.layout_fault.Which.TheVariants.{Types}
 use Rattle.evp_format.specs.declared.record_type.RecordType.{RecordType}
-use Rattle.evp_format.specs.Layout.{Layout, layout_with}
+use Rattle.evp_format.specs.Layout.{layout_with}
 use Rattle.evp_format.specs.Steps.{◌>>=◌}
 use Rattle.evp_profile.specs.declared.profile.Profile.{Profile}
 use Rattle.evp_profile.specs.Declarations.{DeclaredType}

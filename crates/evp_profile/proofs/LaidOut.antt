@@ -1,26 +1,24 @@
 -- What is laid out by a profile is a well laid format, and laid as in C.
-use Rattle.std.proofs.Common.{◌≡◌, ◌≢◌, ℕ, zero, suc, ◌+◌, ◌-◌, ◌<◌, ◌≤◌, Bool, true, false, ◌⊎◌, inl, inr, List, [], ◌∷◌, ◌++◌, length, take, Option, Some, None, Result, Ok, Err, refl, sym, ap, subst, ◌∙◌, arith}
+use Rattle.std.proofs.Common.{◌≡◌, ◌≢◌, ℕ, suc, ◌+◌, ◌<◌, ◌≤◌, true, false, ◌⊎◌, inl, inr, List, [], ◌∷◌, ◌++◌, length, take, Some, Ok, refl, sym, ap, subst, ◌∙◌, arith}
 use Rattle.std.specs.Prelude.{slice_get}
-use Rattle.std.specs.Int.{next_multiple_of}
 use Rattle.std.proofs.lemmas.List.{length-append}
 use Rattle.evp_base.specs.Name.{is_name}
-use Rattle.evp_format.specs.declared.draft.DraftField.{DraftField}
 use Rattle.evp_format.specs.declared.field.Base.{Base}
 use Rattle.evp_format.specs.declared.field.Base.TheVariants.{Number, Text, Nested}
 use Rattle.evp_format.specs.declared.field.Field.{Field}
-use Rattle.evp_format.specs.declared.layout_fault.LayoutFault.{LayoutFault}
 use Rattle.evp_format.specs.declared.record_type.RecordType.{RecordType}
-use Rattle.evp_format.specs.Drafts.{has_type, type_of, depth_behind, counted_fields}
-use Rattle.evp_format.specs.Layout.{Layout, layout_with}
-use Rattle.evp_format.specs.Steps.{◌>>=◌}
-use Rattle.evp_format.specs.Tree.{trees, resolved, branches_of}
+use Rattle.evp_format.specs.Drafts.{has_type}
+use Rattle.evp_format.specs.Layout.{layout_with}
+use Rattle.evp_format.specs.SoFar.{AreLaid, MayFollow}
+use Rattle.evp_format.specs.Tree.{trees, branches_of}
 use Rattle.evp_format.specs.WellLaid.{is_reserved, all_fields, extent, HasBaseSize, IsLaidField, IsLaidType, IsWellLaid}
+use Rattle.evp_format.proofs.Parts.{type_name_facts, field_count_facts}
 use Rattle.evp_format.proofs.Pushed.{slice_get-push, slice_get-some}
-use Rattle.evp_format.proofs.WellLaidFormats.{FollowsTypes, AreLaid, no_types, types_push, before_old, before_new, well_laid}
-use Rattle.evp_format.proofs.WellLaidTypes.{bind_ok, ok_is, AreDrafts, AreCounted, counted_each, laid_field, names_differ}
+use Rattle.evp_format.proofs.WellLaidFormats.{no_types, types_push, before_old, before_new, well_laid}
+use Rattle.evp_format.proofs.WellLaidTypes.{bind_ok, ok_is, AreCounted, counted_each, laid_field, names_differ}
 use Rattle.evp_profile.specs.declared.profile.Profile.{Profile}
 use Rattle.evp_profile.specs.declared.profile.Profile.TheVariants.{Le64, Le32, Be64, Be32}
-use Rattle.evp_profile.specs.Alignment.{alignment, field_alignment, fields_alignment}
+use Rattle.evp_profile.specs.Alignment.{field_alignment, fields_alignment}
 use Rattle.evp_profile.specs.CLayout.{IsLeastMultiple, field_end, IsLaidInC, IsCLayout}
 use Rattle.evp_profile.specs.Declarations.{DeclaredType}
 use Rattle.evp_profile.specs.LayingOut.{laid_type, laid_types}
@@ -33,7 +31,6 @@ use Rattle.evp_profile.proofs.Multiples.{next_multiple_is_least, first_multiple}
 use Rattle.evp_profile.proofs.PlacedTypes.{placed_is, placed_at, placed_within, placed_in_order, placed_next, placed_first, placed_last, field_alignment_positive, placed_laid, AreSome, extent_positive}
 use Rattle.evp_profile.proofs.Placings.{length-placed_fields}
 use Rattle.evp_profile.proofs.StatedFacts.{AreShort, stated_sized, stated_drafts}
-use Rattle.evp_profile.proofs.TypeFacts.{type_name_facts, field_count_facts}
 use Rattle.evp_profile.proofs.TypesPushed.{IsMade, laid_type_facts, made_shallow, alignment-placed_fields}
 
 -- ---- pointers
@@ -72,12 +69,13 @@ made_fields profile earlier declared type short made =
     let least = count.0 in
     let most = count.1 in
     let all = count.2 in
+    let stated = count.3 in
     let number = (stated_sized pointer earlier declared.fields made.drafts made.stated).1 in
     let same = each.0 in
     record {
-      some = omega (arith, least, number, same);
-      most = omega (arith, most, number, same);
-      few = omega (arith, all, number, same);
+      some = omega (arith, least, stated, number, same);
+      most = omega (arith, most, stated, number, same);
+      few = omega (arith, all, stated, number, same);
       each = λ k field found. laid_field pointer earlier 4294967296 made.drafts fields k field drafts counted made.ended.without_default found;
       names_differ = names_differ pointer earlier 4294967296 made.drafts fields drafts counted;
     }
@@ -139,7 +137,7 @@ laid_whole profile earlier name fields named not_reserved some has short =
 
 -- ---- as in C
 
-number_size : (pointer : ℕ) (earlier : List RecordType) (base : Base) (size : ℕ) → HasBaseSize pointer earlier base size → is_number_size base size ≡ true
+pub number_size : (pointer : ℕ) (earlier : List RecordType) (base : Base) (size : ℕ) → HasBaseSize pointer earlier base size → is_number_size base size ≡ true
 number_size pointer earlier (Number kind) size sized = sized
 number_size pointer earlier Text size sized = refl
 number_size pointer earlier (Nested k) size sized = refl
@@ -174,11 +172,11 @@ pub record AreOut (profile : Profile) (types : List RecordType) : Type 0 where
   pub laid : AreLaid (pointer_size profile) types
   pub in_c : (k : ℕ) (type : RecordType) → slice_get types k ≡ Some type → IsLaidInC profile (take k types) type
 
-made_follows : (profile : Profile) (earlier : List RecordType) (declared : DeclaredType) (type : RecordType) → AreOut profile earlier → IsMade profile earlier declared type
-    → FollowsTypes (pointer_size profile) earlier type × IsLaidInC profile earlier type
+pub made_follows : (profile : Profile) (earlier : List RecordType) (declared : DeclaredType) (type : RecordType) → AreLaid (pointer_size profile) earlier → IsMade profile earlier declared type
+    → MayFollow (pointer_size profile) earlier type × IsLaidInC profile earlier type
 made_follows profile earlier declared type are made =
-    let short : AreShort earlier = λ k other found. (are.laid.each k other found).length_allowed.1 in
-    let some : AreSome earlier = λ k other found. (are.laid.each k other found).length_allowed.0 in
+    let short : AreShort earlier = λ k other found. (are.each k other found).length_allowed.1 in
+    let some : AreSome earlier = λ k other found. (are.each k other found).length_allowed.0 in
     let has = made_fields profile earlier declared type short made in
     let named = type_name_facts earlier declared.name made.name made.named in
     let laid = laid_whole profile earlier made.name made.ended.fields named.0 named.1 some has made.ended.short in
@@ -195,7 +193,7 @@ made_follows profile earlier declared type are made =
 
 out_push : (profile : Profile) (earlier : List RecordType) (declared : DeclaredType) (type : RecordType) → AreOut profile earlier → IsMade profile earlier declared type → AreOut profile (earlier ++ type ∷ [])
 out_push profile earlier declared type are made =
-    let follows = made_follows profile earlier declared type are made in
+    let follows = made_follows profile earlier declared type are.laid made in
     record {
       laid = types_push (pointer_size profile) earlier type are.laid follows.0;
       in_c = λ k other found. elim (slice_get-push earlier type k other found) [

@@ -1,5 +1,5 @@
 -- A type whose fields are placed one behind another is well laid, and laid as in C.
-use Rattle.std.proofs.Common.{◌≡◌, ◌≢◌, ℕ, zero, suc, ◌+◌, ◌-◌, ◌*◌, ◌%◌, ◌<◌, ◌≤◌, ℤ, pos, Bool, true, false, ◌⊎◌, inl, inr, List, [], ◌∷◌, ◌++◌, length, get_or, min, Option, Some, None, IsTrue, refl, sym, ap, subst, ◌∙◌, arith}
+use Rattle.std.proofs.Common.{◌≡◌, ℕ, zero, suc, ◌+◌, ◌-◌, ◌<◌, ◌≤◌, pos, true, ◌⊎◌, inl, inr, List, [], ◌∷◌, length, get_or, min, Some, refl, sym, ap, subst, ◌∙◌, arith}
 use Rattle.std.specs.Prelude.{slice_get}
 use Rattle.std.specs.Int.{next_multiple_of}
 use Rattle.std.proofs.lemmas.Bool.Decides.{nat_tests}
@@ -14,13 +14,13 @@ use Rattle.evp_format.specs.declared.field.Shape.{Shape}
 use Rattle.evp_format.specs.declared.field.Shape.TheVariants.{One, Fixed, Counted}
 use Rattle.evp_format.specs.declared.record_type.RecordType.{RecordType}
 use Rattle.evp_format.specs.Tree.{Tree, empty_tree, part_of}
-use Rattle.evp_format.specs.WellLaid.{HasBaseSize, CountsElements, IsCountField, HasShape, CountsNothing, IsNumberIn, StatesDefault, IsLaidField, shape_extent, extent}
+use Rattle.evp_format.specs.WellLaid.{HasBaseSize, IsCountField, HasShape, CountsNothing, StatesDefault, IsLaidField, shape_extent, extent}
 use Rattle.evp_profile.specs.declared.profile.Profile.{Profile}
 use Rattle.evp_profile.specs.declared.profile.Profile.TheVariants.{Le64, Le32, Be64, Be32}
-use Rattle.evp_profile.specs.Alignment.{alignment, pointer_alignment, shape_alignment, part_alignment, field_alignment}
+use Rattle.evp_profile.specs.Alignment.{pointer_alignment, shape_alignment, part_alignment, field_alignment}
 use Rattle.evp_profile.specs.CLayout.{field_end}
 use Rattle.evp_profile.specs.Placing.{offset_behind, end_behind, end_of_fields, field_at, placed_fields}
-use Rattle.evp_profile.specs.Profile.{pointer_size, greatest_alignment}
+use Rattle.evp_profile.specs.Profile.{greatest_alignment}
 use Rattle.evp_profile.specs.Sizes.{is_number_size, HasNumberSize}
 use Rattle.evp_profile.proofs.Alignments.{alignment_positive}
 use Rattle.evp_profile.proofs.Placings.{end_behind_grows, end_of_fields_grows}

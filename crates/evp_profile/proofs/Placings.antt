@@ -1,15 +1,11 @@
 -- Where fields stand, one field on.
-use Rattle.std.proofs.Common.{◌≡◌, ℕ, zero, suc, ◌+◌, ◌-◌, ◌%◌, ◌<◌, ◌≤◌, List, [], ◌∷◌, ◌++◌, length, get_or, drop, min, refl, sym, ap, ◌∙◌, arith, append_assoc}
-use Rattle.std.specs.Int.{next_multiple_of}
+use Rattle.std.proofs.Common.{◌≡◌, ℕ, suc, ◌+◌, ◌<◌, ◌≤◌, List, [], ◌∷◌, ◌++◌, length, get_or, drop, refl, sym, ap, ◌∙◌, arith, append_assoc}
 use Rattle.std.proofs.lemmas.List.{at_drop_all, append-nil}
 use Rattle.evp_format.specs.declared.field.Field.{Field}
 use Rattle.evp_format.specs.Tree.{Tree}
-use Rattle.evp_format.specs.WellLaid.{extent}
 use Rattle.evp_format.proofs.Loops.{next_left}
 use Rattle.evp_profile.specs.declared.profile.Profile.{Profile}
-use Rattle.evp_profile.specs.Alignment.{field_alignment}
 use Rattle.evp_profile.specs.Placing.{offset_behind, end_behind, end_of_fields, field_at, placed_fields}
-use Rattle.evp_profile.specs.Profile.{pointer_size}
 
 pub end_behind_grows : (profile : Profile) (trees : List Tree) (end : ℕ) (field : Field) → end ≤ end_behind profile trees end field
 end_behind_grows profile trees end field = omega arith

@@ -1,11 +1,11 @@
 -- What holds of fields that are stated one by one.
-use Rattle.std.proofs.Common.{◌≡◌, ℕ, zero, suc, ◌+◌, ◌*◌, ◌<◌, ◌≤◌, ℤ, Bool, true, false, cond, ◌⊎◌, inl, inr, List, [], ◌∷◌, ◌++◌, length, get_or, Option, Some, None, Result, Ok, Err, refl, sym, ap, subst, ◌∙◌, arith}
-use Rattle.std.specs.Prelude.{slice_get, nat_le}
+use Rattle.std.proofs.Common.{◌≡◌, ℕ, ◌+◌, ◌≤◌, ℤ, pos, true, false, List, [], ◌∷◌, ◌++◌, length, Option, Some, None, Result, Ok, refl, sym, subst, arith}
+use Rattle.std.specs.Prelude.{slice_get}
 use Rattle.std.specs.List.{All}
-use Rattle.std.proofs.lemmas.Bool.{eqb-true, le-leb, or_cases}
+use Rattle.std.proofs.lemmas.Bool.{eqb-true, le-leb}
 use Rattle.std.proofs.lemmas.Bool.Decides.{nat_tests}
 use Rattle.std.proofs.lemmas.List.{length-append}
-use Rattle.std.proofs.lemmas.Option.{get_or_from_slice_get, slice_get_within}
+use Rattle.std.proofs.lemmas.Option.{get_or_from_slice_get}
 use Rattle.std.proofs.Math.Nat.{mul-le-mul}
 use Rattle.evp_base.specs.declared.kind.Kind.{Kind}
 use Rattle.evp_base.specs.declared.kind.Kind.TheVariants.{Int, Unsigned, Char, Boolean, Enumeration}
@@ -17,43 +17,25 @@ use Rattle.evp_format.specs.declared.draft.DraftShape.TheVariants as draft
 use Rattle.evp_format.specs.declared.field.Base.{Base}
 use Rattle.evp_format.specs.declared.field.Base.TheVariants.{Number, Text, Nested}
 use Rattle.evp_format.specs.declared.layout_fault.LayoutFault.{LayoutFault}
-use Rattle.evp_format.specs.declared.layout_fault.LayoutFault.TheVariants.{BadName, Twice, Size, Default}
 use Rattle.evp_format.specs.declared.record_type.RecordType.{RecordType}
 use Rattle.evp_format.specs.Drafts.{has_field, nested_length, is_base_size, draft_of, draft_extent, may_default}
+use Rattle.evp_format.specs.Describing.{base_word}
+use Rattle.evp_format.specs.Parts.{new_field_name, allowed_size, allowed_default}
 use Rattle.evp_format.specs.Steps.{◌>>=◌}
 use Rattle.evp_format.specs.TypeText.{type_text_of}
+use Rattle.evp_format.proofs.Parts.{field_name_facts, size_facts, default_facts}
 use Rattle.evp_format.proofs.Pushed.{slice_get-some, each-push}
-use Rattle.evp_format.proofs.TypeTexts.{type_text_spelled}
+use Rattle.evp_format.proofs.TypeTexts.{stated_shape_text, type_text_spelled}
 use Rattle.evp_format.proofs.WellLaidFormats.{Follows, no_drafts, drafts_push}
-use Rattle.evp_format.proofs.WellLaidTypes.{bind_ok, passed, not_refused, passed_on, ok_is, IsKnown, IsStatedShape, IsDraft, AreDrafts}
+use Rattle.evp_format.proofs.WellLaidTypes.{bind_ok, ok_is, IsKnown, IsStatedShape, AreDrafts}
 use Rattle.evp_profile.specs.Declarations.{DeclaredField}
-use Rattle.evp_profile.specs.LayingOut.{field_name, size_meant, field_size, with_default, stated_field, stated_fields}
+use Rattle.evp_profile.specs.LayingOut.{size_meant, stated_field, stated_fields}
 use Rattle.evp_profile.specs.Sizes.{is_number_size, HasDraftSize}
 
 -- ---- a field
 
-field_name_facts : (type : ℕ) (before : List DraftField) (text name : List ℕ) → field_name type before text ≡ Ok name → (is_name name ≡ true) × (has_field before name ≡ false)
-unfolding field_name
-field_name_facts type before text name e =
-    let tested : Result (List ℕ) LayoutFault = cond (has_field before text) (Err (Twice type (length before))) (Ok text) in
-    let named = passed_on (is_name text) (BadName type (Some (length before))) tested name e in
-    let fresh = not_refused (has_field before text) (Twice type (length before)) (Ok text) name named.1 in
-    subst (λ (n : List ℕ). (is_name n ≡ true) × (has_field before n ≡ false)) (ok_is text name fresh.1) (named.0, fresh.0)
-
-field_size_facts : (pointer : ℕ) (earlier : List RecordType) (field : ℕ) (base : Base) (declared size : ℕ) → field_size pointer earlier field base declared ≡ Ok size
-    → is_base_size pointer earlier base size ≡ true
-unfolding field_size
-field_size_facts pointer earlier field base declared size e =
-    let meant = size_meant pointer earlier base declared in
-    let fits = passed (is_base_size pointer earlier base meant) (Size (length earlier) field) meant size e in
-    subst (λ (n : ℕ). is_base_size pointer earlier base n ≡ true) fits.1 fits.0
-
-default_facts : (type number : ℕ) (field stated : DraftField) → with_default type number field ≡ Ok stated → (may_default field.base field.shape field.size field.fallback ≡ true) × (field ≡ stated)
-unfolding with_default
-default_facts type number field stated e = passed (may_default field.base field.shape field.size field.fallback) (Default type number) field stated e
-
--- a field behind these, wherever it stands
-pub record IsStated (pointer : ℕ) (earlier : List RecordType) (before : List DraftField) (field : DraftField) : Type 0 where
+-- a declared field behind these, wherever it stands
+pub record IsStated (pointer : ℕ) (earlier : List RecordType) (before : List DraftField) (declared : DeclaredField) (field : DraftField) : Type 0 where
   pub named : is_name field.name ≡ true
   pub fresh : has_field before field.name ≡ false
   pub known : IsKnown earlier field.base
@@ -61,33 +43,45 @@ pub record IsStated (pointer : ℕ) (earlier : List RecordType) (before : List D
   pub sized : is_base_size pointer earlier field.base field.size ≡ true
   pub defaulted : may_default field.base field.shape field.size field.fallback ≡ true
   pub at_start : field.offset ≡ 0
+  pub name_is : field.name ≡ declared.name
+  pub text_is : declared.type_text ≡ base_word earlier field.base ++ stated_shape_text field.shape
+  pub size_is : field.size ≡ size_meant pointer earlier field.base declared.size
+  pub fallback_is : field.fallback ≡ declared.fallback
 
 pub stated_field_facts : (pointer : ℕ) (earlier : List RecordType) (before : List DraftField) (declared : DeclaredField) (field : DraftField) → stated_field pointer earlier before declared ≡ Ok field
-    → IsStated pointer earlier before field
+    → IsStated pointer earlier before declared field
 unfolding stated_field
 stated_field_facts pointer earlier before declared field e =
     let type = length earlier in
     let number = length before in
-    let with_size : List ℕ → Base × DraftShape → ℕ → Result DraftField LayoutFault = λ name said size. with_default type number (draft_of name said size 0 declared.fallback) in
-    let with_type : List ℕ → Base × DraftShape → Result DraftField LayoutFault = λ name said. field_size pointer earlier number said.0 declared.size >>= with_size name said in
+    let last : List ℕ → Base × DraftShape → ℕ → ℤ → Result DraftField LayoutFault = λ name said size fallback. Ok (draft_of name said size 0 fallback) in
+    let with_size : List ℕ → Base × DraftShape → ℕ → Result DraftField LayoutFault = λ name said size. allowed_default type number (draft_of name said size 0 (pos 0)) declared.fallback >>= last name said size in
+    let with_type : List ℕ → Base × DraftShape → Result DraftField LayoutFault = λ name said. allowed_size pointer earlier number said.0 (size_meant pointer earlier said.0 declared.size) >>= with_size name said in
     let with_name : List ℕ → Result DraftField LayoutFault = λ name. type_text_of earlier type number declared.type_text >>= with_type name in
-    let name = bind_ok (field_name type before declared.name) with_name field e in
+    let name = bind_ok (new_field_name type before declared.name) with_name field e in
     let said = bind_ok (type_text_of earlier type number declared.type_text) (with_type name.0) field name.2 in
-    let size = bind_ok (field_size pointer earlier number said.0.0 declared.size) (with_size name.0 said.0) field said.2 in
-    let made = draft_of name.0 said.0 size.0 0 declared.fallback in
-    let last = default_facts type number made field size.2 in
+    let size = bind_ok (allowed_size pointer earlier number said.0.0 (size_meant pointer earlier said.0.0 declared.size)) (with_size name.0 said.0) field said.2 in
+    let plain = draft_of name.0 said.0 size.0 0 (pos 0) in
+    let fallback = bind_ok (allowed_default type number plain declared.fallback) (last name.0 said.0 size.0) field size.2 in
+    let made = draft_of name.0 said.0 size.0 0 fallback.0 in
     let named = field_name_facts type before declared.name name.0 name.1 in
     let spelled = type_text_spelled earlier type number declared.type_text said.0 said.1 in
-    let facts : IsStated pointer earlier before made = record {
+    let sized = size_facts pointer earlier number said.0.0 (size_meant pointer earlier said.0.0 declared.size) size.0 size.1 in
+    let defaulted = default_facts type number plain declared.fallback fallback.0 fallback.1 in
+    let facts : IsStated pointer earlier before declared made = record {
       named = named.0;
       fresh = named.1;
       known = spelled.0;
       shaped = spelled.1;
-      sized = field_size_facts pointer earlier number said.0.0 declared.size size.0 size.1;
-      defaulted = last.0;
+      sized = sized.0;
+      defaulted = defaulted.0;
       at_start = refl;
+      name_is = sym named.2;
+      text_is = sym spelled.2;
+      size_is = sym sized.1;
+      fallback_is = sym defaulted.1;
     } in
-    subst (IsStated pointer earlier before) last.1 facts
+    subst (IsStated pointer earlier before declared) (ok_is made field fallback.2) facts
 
 -- ---- sizes of numbers
 
@@ -150,9 +144,9 @@ extent_bound pointer size draft.One small short shaped = omega arith
 extent_bound pointer size (draft.Fixed n) small short shaped = let most = mul-le-mul shaped.1 short in omega (arith, most)
 extent_bound pointer size (draft.Counted name) small short shaped = omega arith
 
-follows_from : (pointer : ℕ) (earlier : List RecordType) (before : List DraftField) (field : DraftField) → pointer ≤ 8 → AreShort earlier → IsStated pointer earlier before field
+follows_from : (pointer : ℕ) (earlier : List RecordType) (before : List DraftField) (declared : DeclaredField) (field : DraftField) → pointer ≤ 8 → AreShort earlier → IsStated pointer earlier before declared field
     → Follows pointer earlier 4294967296 before field
-follows_from pointer earlier before field small short stated =
+follows_from pointer earlier before declared field small short stated =
     let size = size_bound pointer earlier field.base field.size small short stated.sized in
     let extent = extent_bound pointer field.size field.shape small size stated.shaped in
     let start = stated.at_start in
@@ -174,7 +168,7 @@ unfolding stated_fields
 drafts_from pointer earlier before [] drafts small short e are = subst (AreDrafts pointer earlier 4294967296) (ok_is before drafts e) are
 drafts_from pointer earlier before (declared ∷ rest) drafts small short e are =
     let field = bind_ok (stated_field pointer earlier before declared) (λ field. stated_fields pointer earlier (before ++ field ∷ []) rest) drafts e in
-    let follows = follows_from pointer earlier before field.0 small short (stated_field_facts pointer earlier before declared field.0 field.1) in
+    let follows = follows_from pointer earlier before declared field.0 small short (stated_field_facts pointer earlier before declared field.0 field.1) in
     drafts_from pointer earlier (before ++ field.0 ∷ []) rest drafts small short field.2 (drafts_push pointer earlier 4294967296 before field.0 are follows)
 
 -- stated fields as a description's, in a type that is long enough for each

@@ -1,10 +1,9 @@
 -- Declared fields and types, one on, as a loop takes them.
-use Rattle.std.proofs.Common.{◌≡◌, ℕ, ◌+◌, ◌<◌, ◌≤◌, List, [], ◌∷◌, ◌++◌, length, get_or, drop, Option, Result, Ok, Err, refl, sym, ap, ◌∙◌}
+use Rattle.std.proofs.Common.{◌≡◌, ℕ, ◌+◌, ◌<◌, ◌≤◌, List, [], ◌∷◌, ◌++◌, length, get_or, drop, Result, Ok, Err, refl, sym, ◌∙◌}
 use Rattle.std.proofs.lemmas.List.{at_drop_all}
 use Rattle.evp_format.specs.declared.draft.DraftField.{DraftField}
 use Rattle.evp_format.specs.declared.layout_fault.LayoutFault.{LayoutFault}
 use Rattle.evp_format.specs.declared.record_type.RecordType.{RecordType}
-use Rattle.evp_format.specs.Steps.{◌>>=◌}
 use Rattle.evp_format.proofs.Loops.{next_left}
 use Rattle.evp_profile.specs.declared.declaration.Decl.{Decl}
 use Rattle.evp_profile.specs.declared.declaration.TypeDecl.{TypeDecl}

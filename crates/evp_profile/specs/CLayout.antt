@@ -1,10 +1,9 @@
 -- A format whose types a C compiler lays out: each offset is the least that is allowed, and so is each length.
 use Rattle.std.specs.Prelude.{◌≡◌, ℕ, suc, ◌+◌, ◌-◌, ◌*◌, ◌≤◌, List, length, take, slice_get, Some}
-use Rattle.evp_base.specs.declared.order.Order.{Order}
 use Rattle.evp_format.specs.declared.field.Field.{Field}
 use Rattle.evp_format.specs.declared.record_type.RecordType.{RecordType}
 use Rattle.evp_format.specs.Layout.{Layout}
-use Rattle.evp_format.specs.Tree.{Tree, tree_of, trees, resolved}
+use Rattle.evp_format.specs.Tree.{trees, resolved}
 use Rattle.evp_format.specs.WellLaid.{extent}
 use Rattle.evp_profile.specs.declared.profile.Profile.{Profile}
 use Rattle.evp_profile.specs.Alignment.{alignment, field_alignment}

@@ -1,23 +1,19 @@
 //! Laying out declared types.
 
-ghost use Rattle.std.specs.Prelude.{◌≡◌, ◌+◌, ◌<◌, ◌≤◌, ◌^◌, [], length, IfOk, All};
+ghost use Rattle.std.specs.Prelude.{◌≡◌, ◌<◌, ◌≤◌, ◌^◌, [], length, IfOk, All};
 ghost use Rattle.evp_format.specs.Steps.{Gives};
-ghost use Rattle.evp_format.specs.WellLaid.{all_fields};
+ghost use Rattle.evp_format.specs.Tree.{trees};
 ghost use Rattle.evp_profile.specs.CLayout.{IsCLayout};
 ghost use Rattle.evp_profile.specs.Declarations.{type_declared, types_declared};
-ghost use Rattle.evp_profile.specs.LayingOut.{type_name, field_count, within_length, ended_type, laid_type, laid_types, by_profile};
-ghost use Rattle.evp_profile.specs.Sizes.{AreKnown, HasDraftSize};
+ghost use Rattle.evp_profile.specs.LayingOut.{within_length, laid_type, laid_types, by_profile};
+ghost use Rattle.evp_profile.specs.Placing.{placed_type};
+ghost use Rattle.evp_profile.specs.Sizes.{HasNumberSize};
 
-use crate::alignment::fields_alignment;
-use crate::earlier::Earlier;
+use crate::laid_types::LaidTypes;
 use crate::placing::{length_of_fields, placed_fields};
 use crate::stated::stated_fields;
 use crate::{Profile, TypeDecl};
-use evp_base::Name;
-use evp_format::{
-    DraftField, Fields, Format, LayoutFault, RecordType, Which, count_with_default, counted_fields,
-    depth_behind, has_type, type_name_of,
-};
+use evp_format::{Fields, Format, LayoutFault, RecordType, Which};
 use std::alloc::Global;
 
 /// The format of the declared types as a C compiler lays them out for a machine (C99, section
@@ -46,8 +42,8 @@ pub fn lay_out(alloc: Global, profile: Profile, types: &[TypeDecl]) -> Result<Fo
     if count < 1 || 64 < count {
         return Err(LayoutFault::Limit(Which::Types, count as u32));
     }
-    let types = laid_types(alloc, profile, types)?;
-    let format = Format::new(alloc, profile.byte_order(), profile.pointer_size(), types)?;
+    let laid = laid_types(alloc, profile, types)?;
+    let format = laid.into_format(alloc)?;
     Ok(format)
 }
 
@@ -56,115 +52,57 @@ fn laid_types(
     alloc: Global,
     profile: Profile,
     declared: &[TypeDecl],
-) -> Result<Vec<RecordType>, LayoutFault>
+) -> Result<LaidTypes, LayoutFault>
     requires few { length declared.now ≤ 64 }
     requires fields { All (λ declared. length declared.fields.items < 2 ^ 32) declared.now }
-    ensures { Gives (λ types. types.items) result (laid_types profile [] (types_declared declared.now)) }
+    ensures value { Gives (λ laid. laid.types) result (laid_types profile [] (types_declared declared.now)) }
+    ensures profile { IfOk result (λ laid. laid.profile ≡ profile) }
+    ensures number { IfOk result (λ laid. length laid.types ≡ length declared.now) }
 {
-    let mut types = Vec::with_capacity(alloc, declared.len())?;
-    let mut depths = Vec::with_capacity(alloc, declared.len())?;
-    let mut alignments = Vec::with_capacity(alloc, declared.len())?;
-    let mut so_far = 0;
+    let mut laid = LaidTypes::new(alloc, profile);
     for declaration in declared {
-        let earlier = Earlier {
-            profile,
-            types: &types,
-            depths: &depths,
-            alignments: &alignments,
-        };
-        let record_type = laid_type(alloc, &earlier, so_far, declaration)?;
-        let fields = record_type.fields.as_slice();
-        let depth = depth_behind(fields, &depths);
-        let alignment = fields_alignment(&earlier, fields);
-        so_far += fields.len() as u32;
-        depths.push(depth)?;
-        alignments.push(alignment)?;
-        types.push(record_type)?;
+        let record_type = laid_type(alloc, &laid, declaration)?;
+        laid.push(record_type)?;
     }
-    Ok(types)
+    Ok(laid)
 }
 
-// A type behind these, whose fields are so many.
+// A type behind these.
 #[tactic(auto, unfolding(crate::specs::LayingOut::laid_type))]
 fn laid_type(
     alloc: Global,
-    earlier: &Earlier,
-    so_far: u32,
+    earlier: &LaidTypes,
     declared: &TypeDecl,
 ) -> Result<RecordType, LayoutFault>
-    requires known { AreKnown earlier.now.profile earlier.now.types.now earlier.now.depths.now earlier.now.alignments.now }
-    requires counted { so_far ≡ all_fields earlier.now.types.now }
-    requires few { so_far ≤ 4096 }
-    requires fields { length declared.now.fields.items < 2 ^ 32 }
-    ensures value { Gives (λ type. type) result (laid_type earlier.now.profile earlier.now.types.now (type_declared declared.now)) }
-    ensures limit { IfOk result (λ type. so_far + length type.fields ≤ 4096) }
+    requires { length declared.now.fields.items < 2 ^ 32 }
+    ensures { Gives (λ type. type) result (laid_type earlier.now.profile earlier.now.types (type_declared declared.now)) }
 {
-    let name = type_name(earlier.types, declared.name.as_bytes())?;
-    field_count(so_far, declared.fields.len() as u32)?;
-    let pointer = earlier.profile.pointer_size();
-    let drafts = stated_fields(alloc, pointer, earlier.types, &declared.fields)?;
-    ended_type(alloc, earlier, name, &drafts)
+    let types = earlier.so_far();
+    let name = types.type_name(declared.name.as_bytes())?;
+    types.field_count(declared.fields.len() as u32)?;
+    let drafts = stated_fields(alloc, types, &declared.fields)?;
+    let unplaced = types.end_fields(alloc, name, 0, &drafts)?;
+    placed_type(alloc, earlier, &unplaced)
 }
 
-// A name that isn't reserved and that no earlier type has.
-#[tactic(auto, unfolding(crate::specs::LayingOut::type_name))]
-fn type_name(earlier: &[RecordType], text: &[u8]) -> Result<Name, LayoutFault>
-    requires { length earlier.now ≤ 64 }
-    ensures { result ≡ type_name earlier.now text.now }
-{
-    let number = earlier.len() as u16;
-    match type_name_of(text) {
-        None => Err(LayoutFault::BadName(number, None)),
-        Some(name) if has_type(earlier, name) => Err(LayoutFault::TypeTwice(number)),
-        Some(name) => Ok(name),
-    }
-}
-
-// A number of fields from 1 to 1,024, with which all types have at most 4,096.
-#[tactic(auto, unfolding(crate::specs::LayingOut::field_count))]
-fn field_count(so_far: u32, count: u32) -> Result<u32, LayoutFault>
-    requires { so_far ≤ 4096 }
-    ensures { result ≡ field_count so_far count }
-{
-    if count < 1 || 1024 < count {
-        return Err(LayoutFault::Limit(Which::Fields, count));
-    }
-    if so_far + count <= 4096 {
-        Ok(count)
-    } else {
-        Err(LayoutFault::Limit(Which::AllFields, so_far + count))
-    }
-}
-
-// The type of these fields, or the first fault that shows where it ends.
-#[tactic(auto, unfolding(crate::specs::LayingOut::ended_type, crate::specs::LayingOut::within_length, evp_format::specs::Drafts::without_count_default, evp_format::specs::Drafts::within_nesting))]
-fn ended_type(
+// The type with its fields at their offsets, and its length.
+#[tactic(auto, unfolding(crate::specs::LayingOut::within_length))]
+fn placed_type(
     alloc: Global,
-    earlier: &Earlier,
-    name: Name,
-    drafts: &[DraftField],
+    earlier: &LaidTypes,
+    unplaced: &RecordType,
 ) -> Result<RecordType, LayoutFault>
-    requires known { AreKnown earlier.now.profile earlier.now.types.now earlier.now.depths.now earlier.now.alignments.now }
-    requires few { length drafts.now ≤ 1024 }
-    requires sized { All HasDraftSize drafts.now }
-    ensures { Gives (λ type. type) result (ended_type earlier.now.profile earlier.now.types.now name drafts.now) }
+    requires { All HasNumberSize unplaced.now.fields }
+    ensures { Gives (λ type. type) result (within_length (placed_type earlier.now.profile (trees earlier.now.types) unplaced.now)) }
 {
-    let number = earlier.types.len() as u16;
-    let fields = counted_fields(alloc, number, drafts)?;
-    if let Some(count) = count_with_default(&fields) {
-        return Err(LayoutFault::CountDefault(number, count));
-    }
-    let depth = depth_behind(&fields, earlier.depths);
-    if depth > 16 {
-        return Err(LayoutFault::Limit(Which::Nesting, u32::from(depth)));
-    }
-    let length = length_of_fields(earlier, &fields);
+    let fields = unplaced.fields.as_slice();
+    let length = length_of_fields(earlier, fields);
     if length > 65536 {
         return Err(LayoutFault::Limit(Which::Length, length));
     }
-    let placed = placed_fields(alloc, earlier, &fields)?;
+    let placed = placed_fields(alloc, earlier, fields)?;
     Ok(RecordType {
-        name,
+        name: unplaced.name,
         length,
         fields: Fields::from_vec(placed),
     })

@@ -3,7 +3,7 @@
 
 mod alignment;
 mod declaration;
-mod earlier;
+mod laid_types;
 mod laying_out;
 mod placing;
 mod profile;

@@ -6,24 +6,18 @@ ghost use Rattle.evp_format.specs.Steps.{Gives};
 ghost use Rattle.evp_format.specs.Reading.{field_name_at, field_type_at, field_size_at, field_offset_at, default_at, field_at, fields_at};
 
 use super::parts::{number_at, signed_at, text_at};
-use crate::draft::{draft_extent, draft_of, has_field, is_base_size, may_default};
-use crate::type_text::type_text_of;
-use crate::{Base, DraftField, DraftShape, LayoutFault, RecordType};
+use crate::draft::{draft_extent, draft_of};
+use crate::{Base, DraftField, DraftShape, LayoutFault, TypesSoFar};
 use evp_base::Name;
 use std::alloc::Global;
-
-/// The most bytes of a described field.
-pub(crate) const FIELD_BYTES: u32 = 536;
 
 /// What the fields of a type stand in.
 #[derive(Drop)]
 pub(crate) struct TypeHead<'a> {
     /// Whether defaults are stated.
     pub stated: bool,
-    /// Bytes of a pointer.
-    pub pointer: u8,
     /// The types before this one.
-    pub earlier: &'a [RecordType],
+    pub types: &'a TypesSoFar,
     /// Bytes of the type.
     pub room: u32,
 }
@@ -38,8 +32,7 @@ pub(crate) fn fields_at(
 ) -> Result<(Vec<DraftField>, u32), LayoutFault>
     requires near { at < 2 ^ 30 }
     requires few { count ≤ 1024 }
-    requires types { length head.now.earlier.now ≤ 64 }
-    ensures value { Gives (λ read. (read.0.items, read.1)) result (fields_at count head.now.stated head.now.pointer head.now.earlier.now head.now.room [] bytes.now at) }
+    ensures value { let types = head.now.types.now in Gives (λ read. (read.0.items, read.1)) result (fields_at count head.now.stated types.pointer types.types head.now.room [] bytes.now at) }
     ensures behind { IfOk result (λ read. read.1 ≤ at + 536 * count) }
     ensures number { IfOk result (λ read. length read.0.items ≡ count) }
 {
@@ -63,15 +56,14 @@ fn field_at(
 ) -> Result<(DraftField, u32), LayoutFault>
     requires near { at < 2 ^ 30 + 2 ^ 20 }
     requires few { length before.now < 1024 }
-    requires types { length head.now.earlier.now ≤ 64 }
-    ensures value { result ≡ field_at head.now.stated head.now.pointer head.now.earlier.now head.now.room before.now bytes.now at }
+    ensures value { let types = head.now.types.now in result ≡ field_at head.now.stated types.pointer types.types head.now.room before.now bytes.now at }
     ensures behind { IfOk result (λ read. read.1 ≤ at + 536) }
 {
     let number = before.len() as u16;
-    let (name, at) = field_name_at(bytes, at, before, head.earlier.len() as u16)?;
-    let (said, at) = field_type_at(bytes, at, head.earlier, number)?;
-    let (size, at) = field_size_at(bytes, at, head, number, said.0)?;
-    let taken = draft_extent(head.pointer, &said.1, size);
+    let (name, at) = field_name_at(bytes, at, before, head.types)?;
+    let (said, at) = field_type_at(bytes, at, number, head.types)?;
+    let (size, at) = field_size_at(bytes, at, number, said.0, head.types)?;
+    let taken = draft_extent(head.types.pointer(), &said.1, size);
     let (offset, at) = field_offset_at(bytes, at, head, number, taken)?;
     let plain = draft_of(name, &said, size, offset, 0);
     let (fallback, at) = default_at(bytes, at, head, number, &plain)?;
@@ -84,20 +76,16 @@ fn field_name_at(
     bytes: &[u8],
     at: u32,
     before: &[DraftField],
-    type_number: u16,
+    types: &TypesSoFar,
 ) -> Result<(Name, u32), LayoutFault>
     requires near { at < 2 ^ 31 }
     requires few { length before.now < 1024 }
-    ensures value { result ≡ field_name_at type_number before.now bytes.now at }
+    ensures value { result ≡ field_name_at (length types.now.types) before.now bytes.now at }
     ensures behind { IfOk result (λ read. read.1 ≤ at + 256) }
 {
-    let number = before.len() as u16;
     let (text, behind) = text_at(bytes, at)?;
-    match Name::read(text) {
-        None => Err(LayoutFault::BadName(type_number, Some(number))),
-        Some(name) if has_field(before, name) => Err(LayoutFault::Twice(type_number, number)),
-        Some(name) => Ok((name, behind)),
-    }
+    let name = types.field_name(before, text)?;
+    Ok((name, behind))
 }
 
 // What a type text says.
@@ -105,16 +93,15 @@ fn field_name_at(
 fn field_type_at(
     bytes: &[u8],
     at: u32,
-    earlier: &[RecordType],
     field: u16,
+    types: &TypesSoFar,
 ) -> Result<((Base, DraftShape), u32), LayoutFault>
     requires near { at < 2 ^ 31 }
-    requires types { length earlier.now ≤ 64 }
-    ensures value { result ≡ field_type_at earlier.now field bytes.now at }
+    ensures value { result ≡ field_type_at types.now.types field bytes.now at }
     ensures behind { IfOk result (λ read. read.1 ≤ at + 256) }
 {
     let (text, behind) = text_at(bytes, at)?;
-    let said = type_text_of(text, earlier, earlier.len() as u16, field)?;
+    let said = types.type_text(field, text)?;
     Ok((said, behind))
 }
 
@@ -123,22 +110,18 @@ fn field_type_at(
 fn field_size_at(
     bytes: &[u8],
     at: u32,
-    head: &TypeHead,
     field: u16,
     base: Base,
+    types: &TypesSoFar,
 ) -> Result<(u32, u32), LayoutFault>
     requires near { at < 2 ^ 31 }
-    requires types { length head.now.earlier.now ≤ 64 }
-    ensures value { result ≡ field_size_at head.now.pointer head.now.earlier.now field base bytes.now at }
-    ensures allowed { IfOk result (λ read. IsTrue (is_base_size head.now.pointer head.now.earlier.now base read.0)) }
+    ensures value { result ≡ field_size_at types.now.pointer types.now.types field base bytes.now at }
+    ensures allowed { IfOk result (λ read. IsTrue (is_base_size types.now.pointer types.now.types base read.0)) }
     ensures behind { IfOk result (λ read. read.1 ≡ at + 4) }
 {
-    let (size, behind) = number_at(bytes, at, 4)?;
-    if is_base_size(head.pointer, head.earlier, base, size) {
-        Ok((size, behind))
-    } else {
-        Err(LayoutFault::Size(head.earlier.len() as u16, field))
-    }
+    let (stated, behind) = number_at(bytes, at, 4)?;
+    let size = types.size(field, base, stated)?;
+    Ok((size, behind))
 }
 
 // An offset from which the field ends within the type's length.
@@ -151,16 +134,15 @@ fn field_offset_at(
     taken: u64,
 ) -> Result<(u32, u32), LayoutFault>
     requires near { at < 2 ^ 31 }
-    requires types { length head.now.earlier.now ≤ 64 }
     requires small { taken < 2 ^ 64 - 2 ^ 32 }
-    ensures value { result ≡ field_offset_at (length head.now.earlier.now) field taken head.now.room bytes.now at }
+    ensures value { result ≡ field_offset_at (length head.now.types.now.types) field taken head.now.room bytes.now at }
     ensures behind { IfOk result (λ read. read.1 ≡ at + 4) }
 {
     let (offset, behind) = number_at(bytes, at, 4)?;
     if u64::from(offset) + taken <= u64::from(head.room) {
         Ok((offset, behind))
     } else {
-        Err(LayoutFault::Outside(head.earlier.len() as u16, field))
+        Err(LayoutFault::Outside(head.types.number(), field))
     }
 }
 
@@ -174,18 +156,14 @@ fn default_at(
     field: &DraftField,
 ) -> Result<(i128, u32), LayoutFault>
     requires near { at < 2 ^ 31 }
-    requires types { length head.now.earlier.now ≤ 64 }
-    requires sized { IsTrue (is_base_size head.now.pointer head.now.earlier.now field.now.base field.now.size) }
-    ensures value { result ≡ default_at head.now.stated (length head.now.earlier.now) field.now number bytes.now at }
+    requires sized { IsTrue (is_base_size head.now.types.now.pointer head.now.types.now.types field.now.base field.now.size) }
+    ensures value { result ≡ default_at head.now.stated (length head.now.types.now.types) field.now number bytes.now at }
     ensures behind { IfOk result (λ read. read.1 ≤ at + 16) }
 {
     if !head.stated {
         return Ok((0, at));
     }
-    let (fallback, behind) = signed_at(bytes, at)?;
-    if may_default(field, fallback, head.pointer, head.earlier) {
-        Ok((fallback, behind))
-    } else {
-        Err(LayoutFault::Default(head.earlier.len() as u16, number))
-    }
+    let (stated, behind) = signed_at(bytes, at)?;
+    let fallback = head.types.default(number, field, stated)?;
+    Ok((fallback, behind))
 }

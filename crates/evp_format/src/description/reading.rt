@@ -52,10 +52,14 @@ fn format_at(alloc: Global, bytes: &[u8]) -> Result<(Format, u32), LayoutFault>
     let (pointer, at) = pointer_at(bytes, at)?;
     let (count, at) = type_count_at(bytes, at)?;
     let (types, at) = types_at(alloc, bytes, at, count, stated, pointer)?;
-    if stated && !states_default(&types) {
+    if stated && !states_default(types.types()) {
         return Err(LayoutFault::Plain);
     }
-    Ok((Format::new(alloc, order, pointer, types)?, at))
+    if stated && !states_default(types.types()) {
+        return Err(LayoutFault::Plain);
+    }
+    let format = types.into_format(alloc, order)?;
+    Ok((format, at))
 }
 
 // Whether defaults are stated.

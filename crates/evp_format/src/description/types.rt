@@ -1,17 +1,14 @@
 //! The record types of a description.
 
-ghost use Rattle.std.specs.Prelude.{◌≡◌, ◌+◌, ◌*◌, ◌^◌, ◌<◌, ◌≤◌, [], length, IfOk, map, All};
-ghost use Rattle.evp_format.specs.Reading.{type_name_at, type_length_at, field_count_at, type_at, types_at};
+ghost use Rattle.std.specs.Prelude.{◌≡◌, ◌+◌, ◌*◌, ◌^◌, ◌<◌, ◌≤◌, ◌⊎◌, [], length, IfOk};
+ghost use Rattle.evp_format.specs.Reading.{type_name_at, type_length_at, field_count_at, whole_type, type_at, types_at};
 ghost use Rattle.evp_format.specs.Steps.{Gives};
-ghost use Rattle.evp_format.specs.Tree.{trees};
-ghost use Rattle.evp_format.specs.WellLaid.{depth, all_fields};
+ghost use Rattle.evp_format.specs.WellLaid.{all_fields};
 
 use super::fields::{TypeHead, fields_at};
 use super::parts::{number_at, text_at};
-use crate::draft::has_type;
-use crate::type_text::type_name_of;
-use crate::whole_type::{depth_behind, whole_type};
-use crate::{LayoutFault, RecordType, Which};
+use crate::whole_type::refuse_overlap;
+use crate::{DraftField, LayoutFault, RecordType, TypesSoFar, Which};
 use evp_base::Name;
 use std::alloc::Global;
 
@@ -23,24 +20,19 @@ pub(crate) fn types_at(
     count: u32,
     stated: bool,
     pointer: u8,
-) -> Result<(Vec<RecordType>, u32), LayoutFault>
+) -> Result<(TypesSoFar, u32), LayoutFault>
     requires near { at ≤ 8 }
     requires few { count ≤ 64 }
-    ensures value { Gives (λ read. (read.0.items, read.1)) result (types_at count stated pointer [] bytes.now at) }
+    requires allowed { (pointer ≡ 4) ⊎ (pointer ≡ 8) }
+    ensures value { Gives (λ read. (read.0.types, read.1)) result (types_at count stated pointer [] bytes.now at) }
+    ensures pointer { IfOk result (λ read. read.0.pointer ≡ pointer) }
+    ensures number { IfOk result (λ read. length read.0.types ≡ count) }
     ensures behind { IfOk result (λ read. read.1 < 2 ^ 24) }
 {
-    let mut types = Vec::new(alloc);
-    let mut depths = Vec::new(alloc);
+    let mut types = TypesSoFar::new(alloc, pointer);
     let mut next = at;
-    let mut so_far = 0;
     for _ in 0..count {
-        let (record_type, behind) = type_at(
-            alloc, bytes, next, stated, pointer, &types, &depths, so_far,
-        )?;
-        let fields = record_type.fields.as_slice();
-        let depth = depth_behind(fields, &depths);
-        so_far += fields.len() as u32;
-        depths.push(depth)?;
+        let (record_type, behind) = type_at(alloc, bytes, next, stated, &types)?;
         types.push(record_type)?;
         next = behind;
     }
@@ -54,50 +46,36 @@ fn type_at(
     bytes: &[u8],
     at: u32,
     stated: bool,
-    pointer: u8,
-    earlier: &[RecordType],
-    depths: &[u8],
-    so_far: u32,
+    types: &TypesSoFar,
 ) -> Result<(RecordType, u32), LayoutFault>
     requires near { at < 2 ^ 24 }
-    requires types { length earlier.now < 64 }
-    requires nested { depths.now ≡ map depth (trees earlier.now) }
-    requires shallow { All (λ depth. depth ≤ 16) depths.now }
-    requires counted { so_far ≡ all_fields earlier.now }
-    requires few { so_far ≤ 4096 }
-    ensures value { Gives (λ read. read) result (type_at stated pointer earlier.now bytes.now at) }
+    ensures value { Gives (λ read. read) result (type_at stated types.now.pointer types.now.types bytes.now at) }
     ensures behind { IfOk result (λ read. read.1 ≤ at + 262 + 536 * length read.0.fields) }
-    ensures fields { IfOk result (λ read. so_far + length read.0.fields ≤ 4096) }
+    ensures fields { IfOk result (λ read. all_fields types.now.types + length read.0.fields ≤ 4096) }
 {
-    let (name, at) = type_name_at(bytes, at, earlier)?;
+    let (name, at) = type_name_at(bytes, at, types)?;
     let (room, at) = type_length_at(bytes, at)?;
-    let (count, at) = field_count_at(bytes, at, so_far)?;
+    let (count, at) = field_count_at(bytes, at, types)?;
     let head = TypeHead {
         stated,
-        pointer,
-        earlier,
+        types,
         room,
     };
     let (drafts, at) = fields_at(alloc, bytes, at, count, &head)?;
-    let record_type = whole_type(alloc, pointer, earlier, depths, name, room, &drafts)?;
+    let record_type = whole_type(alloc, types, name, room, &drafts)?;
     Ok((record_type, at))
 }
 
 // A name that isn't reserved and that no earlier type has.
 #[tactic(auto, unfolding(crate::specs::Reading::type_name_at))]
-fn type_name_at(bytes: &[u8], at: u32, earlier: &[RecordType]) -> Result<(Name, u32), LayoutFault>
-    requires near { at < 2 ^ 31 }
-    requires types { length earlier.now < 64 }
-    ensures value { result ≡ type_name_at earlier.now bytes.now at }
+fn type_name_at(bytes: &[u8], at: u32, types: &TypesSoFar) -> Result<(Name, u32), LayoutFault>
+    requires { at < 2 ^ 31 }
+    ensures value { result ≡ type_name_at types.now.types bytes.now at }
     ensures behind { IfOk result (λ read. read.1 ≤ at + 256) }
 {
-    let number = earlier.len() as u16;
     let (text, behind) = text_at(bytes, at)?;
-    match type_name_of(text) {
-        None => Err(LayoutFault::BadName(number, None)),
-        Some(name) if has_type(earlier, name) => Err(LayoutFault::TypeTwice(number)),
-        Some(name) => Ok((name, behind)),
-    }
+    let name = types.type_name(text)?;
+    Ok((name, behind))
 }
 
 // A length of 1 to 65,536.
@@ -117,20 +95,31 @@ fn type_length_at(bytes: &[u8], at: u32) -> Result<(u32, u32), LayoutFault>
 
 // A number of fields from 1 to 1,024, with which all types have at most 4,096.
 #[tactic(auto, unfolding(crate::specs::Reading::field_count_at))]
-fn field_count_at(bytes: &[u8], at: u32, so_far: u32) -> Result<(u32, u32), LayoutFault>
-    requires near { at < 2 ^ 31 }
-    requires few { so_far ≤ 4096 }
-    ensures value { result ≡ field_count_at so_far bytes.now at }
+fn field_count_at(bytes: &[u8], at: u32, types: &TypesSoFar) -> Result<(u32, u32), LayoutFault>
+    requires { at < 2 ^ 31 }
+    ensures value { result ≡ field_count_at (all_fields types.now.types) bytes.now at }
     ensures behind { IfOk result (λ read. read.1 ≡ at + 2) }
-    ensures limit { IfOk result (λ read. (read.0 ≤ 1024) × (so_far + read.0 ≤ 4096)) }
+    ensures limit { IfOk result (λ read. (read.0 ≤ 1024) × (all_fields types.now.types + read.0 ≤ 4096)) }
 {
-    let (count, behind) = number_at(bytes, at, 2)?;
-    if count < 1 || 1024 < count {
-        return Err(LayoutFault::Limit(Which::Fields, count));
-    }
-    if so_far + count <= 4096 {
-        Ok((count, behind))
-    } else {
-        Err(LayoutFault::Limit(Which::AllFields, so_far + count))
-    }
+    let (stated, behind) = number_at(bytes, at, 2)?;
+    let count = types.field_count(stated)?;
+    Ok((count, behind))
+}
+
+// The type of these fields, or the first fault that shows where it ends.
+#[tactic(auto, unfolding(crate::specs::Reading::whole_type))]
+fn whole_type(
+    alloc: Global,
+    types: &TypesSoFar,
+    name: Name,
+    room: u32,
+    drafts: &[DraftField],
+) -> Result<RecordType, LayoutFault>
+    requires { length drafts.now ≤ 1024 }
+    ensures value { Gives (λ made. made) result (whole_type types.now.pointer types.now.types name room drafts.now) }
+    ensures number { IfOk result (λ made. length made.fields ≡ length drafts.now) }
+{
+    let record_type = types.end_fields(alloc, name, room, drafts)?;
+    refuse_overlap(types.pointer(), types.number(), &record_type)?;
+    Ok(record_type)
 }

@@ -8,7 +8,7 @@ use Rattle.evp_profile.proofs.alignment.base_alignment.Goals as goal
 pub returns-in-Some-clause-positive : goal.returns-in-Some-clause-positive
 returns-in-Some-clause-positive c =
     let earlier = c.args.earlier.now in
-    let type = get_or (trees earlier.types.now) c.in-Nested.number empty_tree in
+    let type = get_or (trees earlier.types) c.in-Nested.number empty_tree in
     let is : c.in-Some.alignment.now ≡ alignment earlier.profile type = grind (arith, common_steps) in
     let positive = alignment_positive earlier.profile type in
     λ _. omega (arith, is, positive)

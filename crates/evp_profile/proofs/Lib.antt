@@ -1,5 +1,8 @@
 pub mod Alignments
+pub mod Declared
+pub mod DeclaredAgain
 pub mod Ends
+pub mod ExactLayouts
 pub mod Formats
 pub mod LaidOut
 pub mod LayoutExamples

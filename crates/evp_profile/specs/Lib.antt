@@ -1,5 +1,6 @@
 pub mod Alignment
 pub mod CLayout
+pub mod DeclarationLaws
 pub mod Declarations
 pub mod LaidSoFar
 pub mod LayingOut

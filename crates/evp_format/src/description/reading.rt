@@ -55,9 +55,6 @@ fn format_at(alloc: Global, bytes: &[u8]) -> Result<(Format, u32), LayoutFault>
     if stated && !states_default(types.types()) {
         return Err(LayoutFault::Plain);
     }
-    if stated && !states_default(types.types()) {
-        return Err(LayoutFault::Plain);
-    }
     let format = types.into_format(alloc, order)?;
     Ok((format, at))
 }

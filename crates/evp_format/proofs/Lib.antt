@@ -11,14 +11,21 @@ mod LeadExamples
 pub mod LeadFacts
 pub mod Lists
 pub mod Parts
+pub mod Partners
 pub mod Paths
 pub mod Texts
+pub mod TextsInside
 pub mod Trees
 pub mod ValueViews
 pub mod FieldsAgain
 pub mod FixedTexts
 pub mod FormatsAgain
+pub mod Grown
 pub mod Loops
+pub mod Made
+pub mod MadeAll
+pub mod MadeItself
+pub mod MadeNumbers
 pub mod Names
 pub mod Places
 pub mod Pushed
@@ -29,6 +36,7 @@ pub mod WellLaidFormats
 pub mod WellLaidTypes
 pub mod WideDigits
 pub mod WrittenTypes
+pub mod ZeroSizes
 pub mod Zeros
 mod ClashExamples
 pub mod Clashes

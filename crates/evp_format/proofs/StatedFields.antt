@@ -128,7 +128,7 @@ stated_extent all pointer size One = refl
 stated_extent all pointer size (Fixed n) = refl
 stated_extent all pointer size (Counted c) = refl
 
-range_test : (kind : Kind) (size : ℕ) (n : ℤ) → InRange kind size n → is_in_range kind size n ≡ true
+pub range_test : (kind : Kind) (size : ℕ) (n : ℤ) → InRange kind size n → is_in_range kind size n ≡ true
 range_test kind size n inside =
     let low = inside.0 in
     let high = inside.1 in

@@ -198,7 +198,7 @@ base_size pointer earlier (Nested k) size known sized =
     let some = slice_get-some earlier k known in
     (some.0, some.1, eqb-true size (nested_length earlier k) sized ∙ nested_length-some earlier k some.0 some.1)
 
-in_range_is : (kind : Kind) (size : ℕ) (n : ℤ) → is_in_range kind size n ≡ true → InRange kind size n
+pub in_range_is : (kind : Kind) (size : ℕ) (n : ℤ) → is_in_range kind size n ≡ true → InRange kind size n
 in_range_is kind size n inside =
     let parts = and_parts (not (int_lt n (least kind size))) (not (int_lt (greatest kind size) n)) inside in
     (grind (arith, ints, nat_tests), grind (arith, ints, nat_tests))

@@ -25,7 +25,7 @@ zero_in_range Char size = (omega (arith, ints), omega (arith, ints))
 zero_in_range Boolean size = (omega (arith, ints), omega (arith, ints))
 zero_in_range Enumeration size = (omega (arith, ints), omega (arith, ints))
 
-count_of-copies : (n : ℕ) (datum : Datum) → count_of (copies n datum) ≡ n
+pub count_of-copies : (n : ℕ) (datum : Datum) → count_of (copies n datum) ≡ n
 count_of-copies zero datum = refl
 count_of-copies (suc n) datum = ap suc (count_of-copies n datum)
 
@@ -33,7 +33,7 @@ each_copy : (P : Datum → Type 0) (n : ℕ) (datum : Datum) → P datum → Eac
 each_copy P zero datum holds = tt
 each_copy P (suc n) datum holds = (holds, each_copy P n datum holds)
 
-copies_typed : (P : Datum → Type 0) (n : ℕ) (datum : Datum) → P datum → IsListOf P (Some (pos n)) (list (copies n datum))
+pub copies_typed : (P : Datum → Type 0) (n : ℕ) (datum : Datum) → P datum → IsListOf P (Some (pos n)) (list (copies n datum))
 copies_typed P n datum holds = (ap (λ (m : ℕ). Some (pos m)) (sym (count_of-copies n datum)), each_copy P n datum holds)
 
 -- the field of this number, with its part
@@ -80,6 +80,29 @@ default_typed fields k field (Number kind') kind matches is (inr stated) = rw (�
 default_typed fields k field Text kind matches is stated = absurd matches
 default_typed fields k field (Nested n) kind matches is stated = absurd matches
 
+-- the field that counts an array of a well laid record: a single number
+pub counter_found : (pointer length : ℕ) (all : Branches) (k c : ℕ) (field : Field) → IsLaidRecord pointer length all → AreLaidBranches pointer all → slice_get (fields_of all) k ≡ Some field
+    → field.shape ≡ Counted c → (counter : Field) × (kind : Kind) × (branch_at all c ≡ Some (counter, number_part kind)) × (counter.shape ≡ One) × (counter.fallback ≡ pos 0)
+counter_found pointer length all k c field record_laid laid found is =
+    let fields_are = record_laid.has_fields in
+    let of_type : slice_get record_laid.type.fields k ≡ Some field = ap (λ (fields : List Field). slice_get fields k) fields_are ∙ found in
+    let here = record_laid.laid.each_field k field of_type in
+    let counted : HasShape record_laid.type.fields (Counted c) = subst (HasShape record_laid.type.fields) is here.shape_allowed in
+    let counter = counted.0 in
+    let at_c = counted.1 in
+    let none : counter.fallback ≡ pos 0 =
+    ⊎_elim (λ e. e) (λ stated. absurd (stated.counts_nothing k field of_type is)) (record_laid.laid.each_field c counter at_c).default_allowed in
+    let branch_is = branch_found pointer all c counter laid (ap (λ (fields : List Field). slice_get fields c) (sym fields_are) ∙ at_c) in
+    let number = counting_part counter.base branch_is.0 counted.3 branch_is.2 in
+    (counter, number.0, branch_is.1 ∙ ap (λ (p : Part). Some (counter, p)) number.1, counted.2, none)
+
+-- its default is 0
+pub counted_by_none : (pointer length : ℕ) (all : Branches) (k c : ℕ) (field : Field) → IsLaidRecord pointer length all → AreLaidBranches pointer all → slice_get (fields_of all) k ≡ Some field
+    → field.shape ≡ Counted c → (as_count (default_of (branch_at all c)) ≡ 0) × (count_in (entry_at (zero_branches all all) c) ≡ Some (pos 0))
+counted_by_none pointer length all k c field record_laid laid found is =
+    let counter = counter_found pointer length all k c field record_laid laid found is in
+    zero_count all c counter.0 counter.1 counter.2 counter.3 counter.4
+
 -- a field by its shape, where it stands in a well laid record
 zero_shaped_typed : (pointer : ℕ) (length : ℕ) (all : Branches) (k : ℕ) (field : Field) (part : Part) (shape : Shape) → IsLaidRecord pointer length all → AreLaidBranches pointer all
     → slice_get (fields_of all) k ≡ Some field → field.shape ≡ shape → Matches field.base part → IsOfPart part field.size (zero_part part)
@@ -97,18 +120,7 @@ zero_shaped_typed pointer length all k field part One record_laid laid found is 
 zero_shaped_typed pointer length all k field part (Fixed n) record_laid laid found is matches zero_typed =
     copies_typed (λ value. IsOfPart part field.size value) n (zero_part part) zero_typed
 zero_shaped_typed pointer length all k field part (Counted c) record_laid laid found is matches zero_typed =
-    let fields_are = record_laid.has_fields in
-    let of_type : slice_get record_laid.type.fields k ≡ Some field = ap (λ (fields : List Field). slice_get fields k) fields_are ∙ found in
-    let here = record_laid.laid.each_field k field of_type in
-    let counted : HasShape record_laid.type.fields (Counted c) = subst (HasShape record_laid.type.fields) is here.shape_allowed in
-    let counter = counted.0 in
-    let at_c = counted.1 in
-    let none : counter.fallback ≡ pos 0 =
-    ⊎_elim (λ e. e) (λ stated. absurd (stated.counts_nothing k field of_type is)) (record_laid.laid.each_field c counter at_c).default_allowed in
-    let branch_is = branch_found pointer all c counter laid (ap (λ (fields : List Field). slice_get fields c) (sym fields_are) ∙ at_c) in
-    let number = counting_part counter.base branch_is.0 counted.3 branch_is.2 in
-    let there : branch_at all c ≡ Some (counter, number_part number.0) = branch_is.1 ∙ ap (λ (p : Part). Some (counter, p)) number.1 in
-    let zero_is = zero_count all c counter number.0 there counted.2 none in
+    let zero_is = counted_by_none pointer length all k c field record_laid laid found is in
     let P : Datum → Type 0 = λ value. IsOfPart part field.size value in
     let Holds : Option ℤ → ℕ → Type 0 = λ o n. IsListOf P o (list (copies n (zero_part part))) in
     subst (λ (o : Option ℤ). Holds o (as_count (default_of (branch_at all c)))) (sym zero_is.1)
@@ -132,7 +144,7 @@ mutual
             (λ i. within (suc i) ∙ ap (slice_get (fields_of all)) (omega arith)),
       )
 
-  zero_part_typed : (pointer size : ℕ) (part : Part) → IsLaidPart pointer size part → IsOfPart part size (zero_part part)
+  pub zero_part_typed : (pointer size : ℕ) (part : Part) → IsLaidPart pointer size part → IsOfPart part size (zero_part part)
   zero_part_typed pointer size (number_part kind) laid = zero_in_range kind size
   zero_part_typed pointer size text_part laid = tt
   zero_part_typed pointer size (tree_part nested) laid = zero_tree_typed pointer size nested laid.1

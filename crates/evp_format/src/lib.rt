@@ -31,7 +31,9 @@ pub use draft::{DraftField, DraftShape};
 pub use field::{Base, Field, Shape};
 pub use format::Format;
 pub use format_id::{FormatId, id_of};
-pub use laws::{earlier_trees_stay, zero_is_of_format};
+pub use laws::{
+    converted_is_receivers, converted_to_itself, earlier_trees_stay, zero_is_of_format,
+};
 pub use layout_fault::{LayoutFault, Which};
 pub use lead::{Count, Inside, Lead, Run};
 pub use path::path_of;

@@ -9,7 +9,7 @@ use Rattle.crossbeam_queue.proofs.Lists.{at_set, set_else}
 use Rattle.std.specs.List.{slice_get}
 use Rattle.evp_queue.specs.Counts.{count_at, IsRoute, raised}
 use Rattle.evp_queue.specs.Flow.{Carries}
-use Rattle.evp_queue.specs.Rule.{progress, with_counts, Queued, Ruled, IsNext, Gave}
+use Rattle.evp_queue.specs.Rule.{progress, with_counts, Queued, Ruled, IsNext}
 use Rattle.evp_queue.specs.declared.progress.Progress.{Progress}
 use Rattle.evp_queue.proofs.Counts.{raised_here, raised_elsewhere, was_route}
 use Rattle.evp_queue.proofs.Flows.{carries_more, carries_still}
@@ -117,7 +117,7 @@ module _ {E W Fact : Type 0} (route_of position_of : E → ℕ) (flow : W → �
     }
 
   pub gives : (n pass : ℕ) (v : Progress W) (entry : E) → v.takes ≡ false → IsNext route_of position_of flow stands_for v entry
-      → Pushes (Ruled route_of position_of flow stands_for) n pass v entry (Gave route_of position_of flow stands_for v entry)
+      → Pushes (Ruled route_of position_of flow stands_for) n pass v entry (λ w. w ≡ with_counts v (raised (route_of entry) v.counts))
   gives n pass v entry is next entries passes room rule at =
       let w : Progress W = with_counts v (raised (route_of entry) v.counts) in (
         w,

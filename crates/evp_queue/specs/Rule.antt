@@ -53,9 +53,6 @@ module _ {E W Fact : Type 0} (route_of position_of : E → ℕ) (flow : W → �
       (count_at (route_of entry) v.counts ≡ Some (position_of entry))
       × ((whole : W) × (v.whole ≡ Some whole) × IsPlaced route_of position_of flow stands_for whole entry)
 
-  abbrev pub Gave : Progress W → E → Progress W → Type 0
-  Gave v entry w = w ≡ with_counts v (raised (route_of entry) v.counts)
-
   abbrev pub Took : Progress W → E → Progress W → Type 0
   Took v entry w = IsNext v entry × (w ≡ with_counts v (raised (route_of entry) v.counts))
 

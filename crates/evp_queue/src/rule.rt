@@ -1,7 +1,7 @@
 //! The rule of a stone's queue, and what each of its steps tells. These types are for the proofs alone.
-ghost use Rattle.std.specs.Prelude.{List, ℕ, Option, None, [], true, false};
-ghost use Rattle.evp_queue.specs.Counts.{those, others, zeroed};
-ghost use Rattle.evp_queue.specs.Rule.{progress, unopened, with_counts, Ruled, Gave, Took, Seen};
+ghost use Rattle.std.specs.Prelude.{◌≡◌, List, ℕ, Option, None, [], true, false};
+ghost use Rattle.evp_queue.specs.Counts.{those, others, zeroed, raised};
+ghost use Rattle.evp_queue.specs.Rule.{progress, unopened, with_counts, Ruled, Took, Seen};
 
 use crate::placed::Placed;
 use crate::progress::Progress;
@@ -29,7 +29,7 @@ pub(crate) struct Gives<E> {
 }
 
 impl<E: Placed> Outcome<E, Progress<E::Whole>> for Gives<E> {
-    ghost then = { Gave E.route_of E.position_of E.flow E.stands_for };
+    ghost then = { λ v entry w. w ≡ with_counts v (raised (E.route_of entry) v.counts) };
 }
 
 impl<E: Placed> Lesson<E, Progress<E::Whole>> for Gives<E> {

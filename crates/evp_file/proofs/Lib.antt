@@ -1,0 +1,5 @@
+mod Examples
+pub mod DescriptionLengths
+pub mod Framewise
+pub mod Lists
+pub mod WrittenOrder

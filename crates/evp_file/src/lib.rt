@@ -1,0 +1,16 @@
+//! Record files: formats and records of them, as bytes.
+#![tactic(auto)]
+
+mod fault;
+mod file;
+mod frame;
+mod parts;
+mod reading;
+mod writing;
+
+pub use fault::FileFault;
+pub use file::{
+    FileFormat, FileFormats, FileItem, FileItems, KnownFormat, RecordBytes, RecordFile,
+};
+pub use reading::read_file;
+pub use writing::write_file;

@@ -1,5 +1,11 @@
 mod Examples
 pub mod DescriptionLengths
 pub mod Framewise
+pub mod FilesRead
+pub mod FrameAgain
+pub mod FrameParts
+pub mod FrameSound
 pub mod Lists
+pub mod ReadBack
+pub mod Tests
 pub mod WrittenOrder

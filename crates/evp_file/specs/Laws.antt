@@ -38,7 +38,7 @@ pub record IsExact (known : List KnownFormat) (limit : ℕ) (bytes : List ℕ) :
 -- bytes without a fault are the file that is read, and bytes with one are none
 abbrev pub FilesAreExact : Type 0
 FilesAreExact =
-    (known : List KnownFormat) (limit : ℕ) (bytes : List ℕ) → limit < 2 ^ 32 → All HasId known → All (λ byte. byte < 256) bytes → IsExact known limit bytes
+    (known : List KnownFormat) (limit : ℕ) (bytes : List ℕ) → limit < 2 ^ 32 → All (λ byte. byte < 256) bytes → IsExact known limit bytes
 
 -- a format that a file may have, where known identifiers differ
 abbrev pub IsFormatOf : List KnownFormat → FileFormat → Type 0

@@ -5,13 +5,11 @@ use Rattle.std.specs.Option.{ok_or}
 use Rattle.evp_base.specs.declared.order.Order.TheVariants.{Big}
 use Rattle.evp_base.specs.Numbers.{magnitude}
 use Rattle.evp_format.specs.declared.broken.Broken.{Broken}
-use Rattle.evp_format.specs.declared.broken.Broken.TheVariants.{ShortRecord, NegativeCount, NullList, BlockPlace, NoEnd}
 use Rattle.evp_format.specs.declared.layout_fault.LayoutFault.{LayoutFault}
-use Rattle.evp_format.specs.declared.place.PlaceStep.{PlaceStep}
+use Rattle.evp_format.specs.BrokenText.{fault_path}
 use Rattle.evp_format.specs.Bytes.{bytes_at, bytes_equal}
 use Rattle.evp_format.specs.Datum.{Datum}
 use Rattle.evp_format.specs.Layout.{Layout}
-use Rattle.evp_format.specs.Path.{path_of}
 use Rattle.evp_format.specs.Reading.{layout_of}
 use Rattle.evp_format.specs.Viewing.{view}
 use Rattle.evp_file.specs.declared.fault.FileFault.{FileFault}
@@ -63,18 +61,10 @@ known_frame known file at bytes = do
   number ← ok_or (known_number known id) (UnknownId at)
   Ok (Format (Known number), 33)
 
--- the place of a record's fault
-abbrev pub fault_place : Broken → List PlaceStep
-fault_place ShortRecord = []
-fault_place (NegativeCount place) = place
-fault_place (NullList place) = place
-fault_place (BlockPlace place) = place
-fault_place (NoEnd place) = place
-
 -- a record that has a value
 abbrev pub unbroken : ℕ → Layout → Result Datum Broken → Result (Unit {0}) FileFault
 unbroken at layout (Ok value) = Ok tt
-unbroken at layout (Err fault) = Err (BrokenAt at fault (path_of layout (fault_place fault)))
+unbroken at layout (Err fault) = Err (BrokenAt at fault (fault_path layout fault))
 
 unfoldable pub record_frame : List KnownFormat → ℕ → RecordFile → ℕ → List ℕ → Result (Frame × ℕ) FileFault
 record_frame known limit file at bytes = do

@@ -2,17 +2,15 @@
 
 ghost use Rattle.std.specs.Prelude.{◌≡◌, ◌+◌, ◌^◌, ◌<◌, ◌≤◌, length, option_map, IfOk, IfSome};
 ghost use Rattle.evp_format.specs.Bytes.{bytes_equal};
-ghost use Rattle.evp_format.specs.Path.{path_of as names_of};
 ghost use Rattle.evp_format.specs.Reading.{layout_of};
 ghost use Rattle.evp_format.specs.Viewing.{view};
 ghost use Rattle.evp_file.specs.File.{layout_in};
-ghost use Rattle.evp_file.specs.Reading.{described, own_frame, known_number, known_frame, unbroken, record_frame, frame_at, fault_place};
+ghost use Rattle.evp_file.specs.Reading.{described, own_frame, known_number, known_frame, unbroken, record_frame, frame_at};
 ghost use Rattle.evp_file.specs.Steps.{Gives, Says};
 
 use crate::parts::{number_part, part};
 use crate::{FileFault, FileFormat, FileItem, KnownFormat, RecordBytes, RecordFile};
-use evp_base::{FieldPath, Memory};
-use evp_format::{Broken, Format, LayoutFault, Place, path_of, read_description};
+use evp_format::{Format, LayoutFault, read_description};
 use evp_record::check;
 use std::alloc::Global;
 
@@ -199,21 +197,8 @@ fn check_record(alloc: Global, at: u32, format: &Format, bytes: &[u8]) -> Result
     match check(format, bytes) {
         Ok(_) => Ok(()),
         Err(fault) => {
-            let path = fault_path(alloc, format, &fault)?;
+            let path = fault.path(alloc, format)?;
             Err(FileFault::Broken(at, fault, path))
         }
-    }
-}
-
-// The path of a fault in a record of the format.
-fn fault_path(alloc: Global, format: &Format, fault: &Broken) -> Result<FieldPath, Memory>
-    ensures { IfOk result (λ path. path ≡ names_of format.now (fault_place fault.now)) }
-{
-    match fault {
-        Broken::ShortRecord => path_of(alloc, format, &Place::root()),
-        Broken::NegativeCount(place)
-        | Broken::NullList(place)
-        | Broken::BlockPlace(place)
-        | Broken::NoEnd(place) => path_of(alloc, format, place),
     }
 }

@@ -4,6 +4,7 @@
 mod fault;
 mod file;
 mod frame;
+mod laws;
 mod parts;
 mod reading;
 mod writing;
@@ -12,5 +13,6 @@ pub use fault::FileFault;
 pub use file::{
     FileFormat, FileFormats, FileItem, FileItems, KnownFormat, RecordBytes, RecordFile,
 };
+pub use laws::{files_are_exact, files_read_back};
 pub use reading::read_file;
 pub use writing::write_file;

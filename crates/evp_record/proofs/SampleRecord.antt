@@ -7,13 +7,14 @@ use Rattle.evp_base.specs.Numbers.{InRange}
 use Rattle.evp_format.specs.Drafts.{shape_in, counted_fields, without_count_default, within_nesting, without_overlap}
 use Rattle.evp_format.specs.TypeText.{word_of, fixed_of, inside_of, shape_of, base_of, type_text_of}
 use Rattle.evp_format.specs.Reading.{number_at, signed_at, text_behind, text_at, field_name_at, field_type_at, field_size_at, field_offset_at, default_at, field_at, fields_at, type_name_at, type_length_at, field_count_at, whole_type, type_at, types_at, magic_at, order_at, pointer_at, type_count_at, with_default, layout_at, layout_of}
+use Rattle.evp_format.specs.Parts.{new_type_name, new_field_count, new_field_name, allowed_size, allowed_default, ended_type}
 use Rattle.evp_format.specs.Packing.{packed_size, pack}
 use Rattle.evp_format.specs.Typed.{IsOf}
 use Rattle.evp_format.specs.Viewing.{view}
 use Rattle.evp_record.specs.Samples.{list_description, list_layout, list_bytes, list_value}
 
 pub list_is_read : layout_of list_description ≡ Ok list_layout
-unfolding digits word_of fixed_of inside_of shape_of base_of type_text_of shape_in counted_fields without_count_default within_nesting without_overlap number_at signed_at text_behind text_at field_name_at field_type_at field_size_at field_offset_at default_at field_at fields_at type_name_at type_length_at field_count_at whole_type type_at types_at magic_at order_at pointer_at type_count_at with_default layout_at layout_of
+unfolding digits allowed_default allowed_size ended_type new_field_count new_field_name new_type_name word_of fixed_of inside_of shape_of base_of type_text_of shape_in counted_fields without_count_default within_nesting without_overlap number_at signed_at text_behind text_at field_name_at field_type_at field_size_at field_offset_at default_at field_at fields_at type_name_at type_length_at field_count_at whole_type type_at types_at magic_at order_at pointer_at type_count_at with_default layout_at layout_of
 list_is_read = refl
 
 pub list_is_viewed : view list_layout list_bytes ≡ Ok list_value

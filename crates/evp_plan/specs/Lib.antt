@@ -1,0 +1,10 @@
+pub mod Counts
+pub mod Faults
+pub mod Matching
+pub mod Measuring
+pub mod Moving
+pub mod Planned
+pub mod Program
+pub mod Ready
+pub mod Sound
+pub mod Standing

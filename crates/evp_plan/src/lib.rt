@@ -1,0 +1,12 @@
+//! Conversion plans: what has to be done to a record of one format to make it one of another.
+#![tactic(auto)]
+
+mod build_fault;
+mod builds;
+mod plan;
+mod step;
+
+pub use build_fault::BuildFault;
+pub use builds::Builds;
+pub use plan::Plan;
+pub use step::{Elements, Op, Origin, Part, Run, Source, Step, Steps, Task};

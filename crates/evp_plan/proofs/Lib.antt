@@ -1,1 +1,5 @@
+mod Agreeing
+mod Arrays
+mod Defaults
 mod Examples
+mod Sent

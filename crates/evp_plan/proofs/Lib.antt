@@ -1,5 +1,6 @@
 mod Agreeing
 mod Arrays
+mod Conversions
 mod Defaults
 mod Examples
 mod Sent

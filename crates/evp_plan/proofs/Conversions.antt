@@ -39,7 +39,7 @@ abbrev pub branches_in : Tree → Branches
 branches_in (tree length branches) = branches
 
 -- a receiver field doesn't clash with its partner
-abbrev AreAlike : Branches → Field → Part → Type 0
+abbrev pub AreAlike : Branches → Field → Part → Type 0
 AreAlike from field part = clash_partners (branch_named field.name from) field part (λ sender_part. clash_parts sender_part part) ≡ None
 
 no_first : {A : Type 0} (one other : Option A) → first_of_two one other ≡ None → (one ≡ None) × (other ≡ None)
@@ -50,7 +50,7 @@ no_mapped : (name : List ℕ) (found : Option (List PathStep)) → option_map (�
 no_mapped name None none = refl
 no_mapped name (Some steps) none = cc
 
-alike_branches : (from : Branches) (field : Field) (part : Part) (rest : Branches) → clash_branches from (branch field part rest) ≡ None → AreAlike from field part × (clash_branches from rest ≡ None)
+pub alike_branches : (from : Branches) (field : Field) (part : Part) (rest : Branches) → clash_branches from (branch field part rest) ≡ None → AreAlike from field part × (clash_branches from rest ≡ None)
 alike_branches from field part rest none =
     let found = clash_partners (branch_named field.name from) field part (λ sender_part. clash_parts sender_part part) in
     let both = no_first (option_map (λ steps. path.Field field.name ∷ steps) found) (clash_branches from rest) none in
@@ -66,12 +66,12 @@ both_true true b is = (refl, is)
 both_true false b is = cc
 
 -- a partner of this shape and part
-record IsAlike (shape : Shape) (part : Part) (shape' : Shape) (part' : Part) : Type 0 where
-  shapes : same_shape (is_array shape) (is_array shape') ≡ true
-  parts : same_part part part' ≡ true
-  inside : clash_parts part part' ≡ None
+pub record IsAlike (shape : Shape) (part : Part) (shape' : Shape) (part' : Part) : Type 0 where
+  pub shapes : same_shape (is_array shape) (is_array shape') ≡ true
+  pub parts : same_part part part' ≡ true
+  pub inside : clash_parts part part' ≡ None
 
-alike_with : (sender : Field) (part : Part) (field : Field) (part' : Part) → clash_partners (Some (sender, part)) field part' (λ sender_part. clash_parts sender_part part') ≡ None
+pub alike_with : (sender : Field) (part : Part) (field : Field) (part' : Part) → clash_partners (Some (sender, part)) field part' (λ sender_part. clash_parts sender_part part') ≡ None
     → IsAlike sender.shape part field.shape part'
 alike_with sender part field part' none =
     let classes = alike_classes (same_class sender part field part') (clash_parts part part') none in
@@ -179,7 +179,7 @@ numbers_at place k (branch field part rest) entries values z (suc i) is =
 abbrev AreNumbers : Image → Branches → ℕ → Branches → List ℤ → Type 0
 AreNumbers image from at all values = (i : ℕ) → number_at values i ≡ origin_number image at (wanted_origin (known_branches from) (slice_get (known_branches all) i))
 
-alike_at : (from branches : Branches) (k : ℕ) (field : Field) (part : Part) → clash_branches from branches ≡ None → branch_at branches k ≡ Some (field, part) → AreAlike from field part
+pub alike_at : (from branches : Branches) (k : ℕ) (field : Field) (part : Part) → clash_branches from branches ≡ None → branch_at branches k ≡ Some (field, part) → AreAlike from field part
 alike_at from no_fields k field part alike found = cc
 alike_at from (branch other part' rest) zero field part alike found =
     let same : (other, part') ≡ (field, part) = cc in
@@ -211,7 +211,7 @@ InsideAgrees limit image machine (tree_part nested) =
     → Agrees (make_tree limit nested place entries after) (λ datum. pack_tree machine nested t (entries_of (Some datum)) after) (measured limit image (compiled_tree from nested) place at after)
     (moved image machine (compiled_tree from nested) at t after)
 
-clash_of_trees : (from nested : Tree) → clash_trees from nested ≡ clash_branches (branches_in from) (branches_in nested)
+pub clash_of_trees : (from nested : Tree) → clash_trees from nested ≡ clash_branches (branches_in from) (branches_in nested)
 clash_of_trees (tree length from) (tree length' to) = refl
 
 -- an element, from one that stands at s
@@ -338,11 +338,11 @@ text_given image from at field (Some (sender, part)) (Some value) is given alike
     text_of sender (Counted c) part value sent alike = let no = alike.shapes in cc
 
 -- a single record
-record RecordGiven (image : Image) (nested : Tree) (found : Option (Field × Part)) (s : ℕ) (entries : Entries) : Type 0 where
-  sent : RecordSent image (inside_partner found) s entries
-  alike : clash_branches (inside_partner found) (branches_in nested) ≡ None
+pub record RecordGiven (image : Image) (nested : Tree) (found : Option (Field × Part)) (s : ℕ) (entries : Entries) : Type 0 where
+  pub sent : RecordSent image (inside_partner found) s entries
+  pub alike : clash_branches (inside_partner found) (branches_in nested) ≡ None
 
-record_given : (image : Image) (from : Branches) (at : ℕ) (field : Field) (nested : Tree) (found : Option (Field × Part)) (value : Option Datum) → field.shape ≡ One → IsPartner image from at found value
+pub record_given : (image : Image) (from : Branches) (at : ℕ) (field : Field) (nested : Tree) (found : Option (Field × Part)) (value : Option Datum) → field.shape ≡ One → IsPartner image from at found value
     → clash_partners found field (tree_part nested) (λ sender_part. clash_parts sender_part (tree_part nested)) ≡ None
     → RecordGiven image nested found (at + or_zero (offset_of (known_of found))) (entries_of value)
 record_given image from at field nested None None is given alike = record { sent = nothing_sent image (at + 0); alike = no_clash_with_nothing (branches_in nested) }

@@ -3,4 +3,6 @@ mod Arrays
 mod Conversions
 mod Defaults
 mod Examples
+mod Readiness
 mod Sent
+mod Sounds

@@ -3,6 +3,8 @@ mod Arrays
 mod Conversions
 mod Defaults
 mod Examples
+mod Known
+mod Meaning
 mod Readiness
 mod Sent
 mod Sounds

@@ -102,11 +102,15 @@ abbrev pub or_zero : Option ℕ → ℕ
 or_zero None = 0
 or_zero (Some n) = n
 
+-- what a field that is no array is made from, by its partner
+abbrev pub single_for : Field → Content → Option (Field × Content) → Op
+single_for field (numbers kind) partner = Number kind (number_origin partner field.fallback)
+single_for field texts partner = Text (offset_of partner)
+single_for field records partner = Nest (or_zero (offset_of partner))
+
 -- what a field is made from, by its partner
 abbrev pub op_for : List (Field × Content) → List (Field × Content) → Field → Shape → Content → Option (Field × Content) → Op
-op_for from all field One (numbers kind) partner = Number kind (number_origin partner field.fallback)
-op_for from all field One texts partner = Text (offset_of partner)
-op_for from all field One records partner = Nest (or_zero (offset_of partner))
+op_for from all field One content partner = single_for field content partner
 op_for from all field (Fixed n) content partner = Each n (elements_for from field.size content partner)
 op_for from all field (Counted c) content partner = Many (wanted_origin from (slice_get all c)) (elements_for from field.size content partner)
 

@@ -3,8 +3,10 @@
 
 mod build_fault;
 mod builds;
+mod matching;
 mod plan;
 mod step;
+mod table;
 
 pub use build_fault::BuildFault;
 pub use builds::Builds;

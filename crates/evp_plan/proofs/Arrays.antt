@@ -49,8 +49,7 @@ zeros_made packs zero_element wrote place zero k size made_zero = (refl, refl)
 zeros_made packs zero_element wrote place (suc n) k size made_zero =
     let here = made_zero k (place k) size in
     let first = packs (place k) zero_element size in
-    let behind = zeros_made packs zero_element wrote place n (suc k) first.size made_zero in
-    (
+    let behind = zeros_made packs zero_element wrote place n (suc k) first.size made_zero in (
       then_pack-same (wrote k (place k) size) first (λ later. moved_elements (λ i. wrote i (place i)) n (suc k) later) (λ later. pack_elements (λ i. packs (place i)) (copies n zero_element) (suc k) later)
           here.0 behind.0,
       behind.1 ∙ here.1,

@@ -31,7 +31,7 @@ slice_get-known_fields [] k = refl
 slice_get-known_fields (field ∷ fields) zero = refl
 slice_get-known_fields (field ∷ fields) (suc k) = slice_get-known_fields fields k
 
-content_of-part_of : (earlier : List Tree) (base : Base) → content_of (part_of earlier base) ≡ content_of_base base
+pub content_of-part_of : (earlier : List Tree) (base : Base) → content_of (part_of earlier base) ≡ content_of_base base
 content_of-part_of earlier (Number kind) = refl
 content_of-part_of earlier Text = refl
 content_of-part_of earlier (Nested n) = refl

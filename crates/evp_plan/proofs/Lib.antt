@@ -5,6 +5,8 @@ mod Defaults
 mod Examples
 mod Known
 mod Meaning
+mod Programs
 mod Readiness
 mod Sent
 mod Sounds
+mod Tables

@@ -358,8 +358,7 @@ field_ready image from all at field One (tree_part nested) found value is given 
 field_ready image from all at field (Fixed n) part found value is given alike all_alike inside held ready =
     elements_there image from at field (Fixed n) part found value is refl given alike inside held ready
 field_ready image from all at field (Counted c) part found value is given alike all_alike inside held ready =
-    let There : Option (Field × Content) → Type 0 = λ known. IsOriginThere image at (wanted_origin (known_branches from) known) in
-    (
+    let There : Option (Field × Content) → Type 0 = λ known. IsOriginThere image at (wanted_origin (known_branches from) known) in (
       subst There (sym (slice_get-known all c)) (wanted_there image from at (branch_at all c) inside (λ other other_part there. alike_at from all c other other_part all_alike there)),
       elements_there image from at field (Counted c) part found value is refl given alike inside held ready,
     )
@@ -378,8 +377,7 @@ mutual
       let parts = alike_branches from field part rest alike in
       let found = branch_named field.name from in
       let There : Option (Field × Content) → Type 0 = λ partner.
-      IsOpThere image at (op_for (known_branches from) (known_branches all) field field.shape (content_of part) partner) (λ s. IsReady image (compiled_part (inside_partner found) part) s) in
-      (
+      IsOpThere image at (op_for (known_branches from) (known_branches all) field field.shape (content_of part) partner) (λ s. IsReady image (compiled_part (inside_partner found) part) s) in (
         subst There (sym (known_named-branches field.name from))
             (field_ready image from all at field field.shape part found (named field.name entries) refl (partner image from at entries field.name sent) parts.0 all_alike inside (partner_held image from at field.name inside)
             (ready_inside image part)),

@@ -1,12 +1,12 @@
 -- The steps that are made for two types: one for each field of the receiver's.
-use Rattle.std.specs.Prelude.{◌≡◌, ℕ, zero, suc, ◌+◌, ◌*◌, ◌≤◌, ◌<◌, List, [], ◌∷◌, length, if◌then◌else◌, Option, Some, None}
+use Rattle.std.specs.Prelude.{◌≡◌, ℕ, zero, suc, ◌+◌, ◌*◌, ◌≤◌, ◌<◌, List, [], ◌∷◌, length, if◌then◌else◌, slice_get, Option, Some, None, ⊤}
 use Rattle.evp_format.specs.Bytes.{bytes_equal}
 use Rattle.evp_format.specs.declared.field.Base.{Base}
 use Rattle.evp_format.specs.declared.field.Base.TheVariants.{Number, Text, Nested}
 use Rattle.evp_format.specs.declared.field.Field.{Field}
 use Rattle.evp_format.specs.declared.record_type.RecordType.{RecordType}
 use Rattle.evp_format.specs.Layout.{Layout}
-use Rattle.evp_format.specs.Tree.{Tree, tree, Branches, no_fields, tree_of}
+use Rattle.evp_format.specs.Tree.{Tree, tree, Branches, no_fields, tree_of, trees, branches_of}
 use Rattle.evp_plan.specs.declared.step.Step.{Step}
 use Rattle.evp_plan.specs.Matching.{Content, content_of_base, known_fields, known_named, task_for, compiled_tree}
 use Rattle.evp_plan.specs.Program.{program_at, IsOrdered}
@@ -57,6 +57,27 @@ branches_in (tree length branches) = branches
 abbrev pub row_branches : Layout → ℕ → Branches
 row_branches from zero = no_fields
 row_branches from (suc n) = branches_in (tree_of from n)
+
+-- a nested type of this base stands before type n
+abbrev pub NestsBelow : ℕ → Base → Type 0
+NestsBelow n (Number kind) = ⊤
+NestsBelow n Text = ⊤
+NestsBelow n (Nested m) = m < n
+
+abbrev pub EachNestsBelow : ℕ → List Field → Type 0
+EachNestsBelow n fields = (i : ℕ) (field : Field) → slice_get fields i ≡ Some field → NestsBelow n field.base
+
+-- what is known of a row of the sender's: its fields, of which each is of an earlier type or no record
+pub record IsRow (from : Layout) (row : ℕ) (sender : List Field) : Type 0 where
+  pub low : row < suc (length from.types)
+  pub fields : row_branches from row ≡ branches_of (trees from.types) sender
+  pub each : (i : ℕ) (field : Field) → slice_get sender i ≡ Some field → row_of_base field.base < suc (length from.types)
+
+-- what is known of a type of the receiver's
+pub record IsTypeOf (to : Layout) (n : ℕ) (all : List Field) : Type 0 where
+  pub long : ℕ
+  pub tree_is : tree_of to n ≡ tree long (branches_of (trees to.types) all)
+  pub nests : EachNestsBelow n all
 
 -- steps for each type of the receiver, from each row of the sender's, the last of them for the last of both
 pub record IsTable (from to : Layout) (table : List (List Step)) : Type 0 where

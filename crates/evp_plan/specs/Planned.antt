@@ -25,6 +25,10 @@ pub record Planned : Type 0 where
   pub table : List (List Step)
   pub alike : Bool
 
+-- a plan for a receiver of this format
+abbrev pub planned_of : Layout → List (List Step) → Bool → Planned
+planned_of to table alike = record { order = to.order; pointer = to.pointer; fixed = length_of (root_of to); table = table; alike = alike }
+
 -- what makes the record
 abbrev pub whole_program : Planned → Program
 whole_program plan = program_at plan.table (length plan.table - 1)

@@ -2,6 +2,7 @@
 #![tactic(auto)]
 
 mod build_fault;
+mod building;
 mod builds;
 mod matching;
 mod plan;
@@ -9,6 +10,7 @@ mod step;
 mod table;
 
 pub use build_fault::BuildFault;
+pub use building::build;
 pub use builds::Builds;
 pub use plan::Plan;
 pub use step::{Elements, Op, Origin, Part, Run, Source, Step, Steps, Task};

@@ -61,9 +61,7 @@ fn single_origin(from: &[Field], field: &Field) -> Origin
     ensures { result ≡ single_origin (known_fields from.now) field.now field.now.shape (content_of_base field.now.base) }
 {
     match (field.shape, field.base) {
-        (Shape::One, Base::Number(_)) => {
-            origin_of(&field_named(&field.name, from), field)
-        }
+        (Shape::One, Base::Number(_)) => { origin_of(&field_named(&field.name, from), field) }
         _ => Origin::Stated(0),
     }
 }

@@ -5,6 +5,7 @@ ghost use Rattle.evp_plan.specs.Program.{IsOrdered};
 
 use crate::Steps;
 use evp_base::Order;
+use evp_format::Format;
 use std::marker::Model;
 
 /// The steps that make a record of one format from a record of another.
@@ -30,6 +31,23 @@ impl Model for Plan {
 }
 
 impl Plan {
+    ghost use Rattle.evp_plan.specs.Planned.{planned_of};
+
+    // The plan for a receiver of this format.
+    pub(crate) fn new(to: &Format, table: Vec<Steps>, alike: bool) -> Self
+        requires ordered { IsOrdered table.items }
+        requires some { 1 ≤ length table.items }
+        ensures { result ≡ planned_of to.now table.items alike }
+    {
+        Plan {
+            order: to.order(),
+            pointer: to.pointer(),
+            fixed: to.root().length,
+            table,
+            alike,
+        }
+    }
+
     /// The order of the receiver's bytes.
     pub fn order(&self) -> Order
         ensures { result ≡ self.now.order }

@@ -2,12 +2,12 @@
 //! none.
 
 ghost use Rattle.std.specs.Prelude.{◌≡◌, ◌+◌, ◌*◌, ◌<◌, ◌≤◌, ℕ, suc, length, IfOk, OnOk};
-ghost use Rattle.evp_plan.specs.Building.{IsTable};
+ghost use Rattle.evp_plan.specs.Building.{IsTable, IsRow, IsTypeOf};
 
 use crate::Steps;
 use crate::matching::steps_of;
 use evp_base::Memory;
-use evp_format::Format;
+use evp_format::{Field, Format};
 use std::alloc::Global;
 
 // The steps for each type of the receiver. A record that has no partner is made like one whose
@@ -19,7 +19,7 @@ pub(crate) fn table_of(alloc: Global, from: &Format, to: &Format) -> Result<Vec<
 {
     let mut table = Vec::new(alloc);
     for n in 0..to.types().len() {
-        add_rows(alloc, from, to, n, &mut table)?;
+        add_rows(alloc, from, to, n as u16, &mut table)?;
     }
     Ok(table)
 }
@@ -29,7 +29,7 @@ fn add_rows(
     alloc: Global,
     from: &Format,
     to: &Format,
-    n: usize,
+    n: u16,
     table: &mut Vec<Steps>,
 ) -> Result<(), Memory>
     requires there { n < length to.now.types }
@@ -38,12 +38,30 @@ fn add_rows(
     ensures table { OnOk result (IsTable from.now to.now table.new.items) }
     ensures whole { OnOk result (length table.new.items ≡ suc n * suc (length from.now.types)) }
 {
-    let all = to.types()[n].fields.as_slice();
-    let types = from.types();
-    let rows = types.len() as u32 + 1;
-    table.push(steps_of(alloc, rows, &[], all)?)?;
-    for sender in types {
-        table.push(steps_of(alloc, rows, sender.fields.as_slice(), all)?)?;
+    let all = type_fields(to, n);
+    let rows = from.types().len() as u32 + 1;
+    for row in 0..rows {
+        table.push(steps_of(alloc, rows, row_fields(from, row as u16), all)?)?;
     }
     Ok(())
+}
+
+// The fields of the receiver's type of that number.
+fn type_fields(to: &Format, n: u16) -> &[Field]
+    requires { n < length to.now.types }
+    ensures type_of { IsTypeOf to.now n result.now }
+    ensures few { length result.now ≤ 1024 }
+{
+    to.record_type(n).fields.as_slice()
+}
+
+// The fields of a row of the sender's: none, or those of the type of the number before.
+fn row_fields(from: &Format, row: u16) -> &[Field]
+    requires { row ≤ length from.now.types }
+    ensures { IsRow from.now row result.now }
+{
+    if row == 0 {
+        return &[];
+    }
+    from.record_type(row - 1).fields.as_slice()
 }

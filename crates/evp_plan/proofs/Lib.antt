@@ -5,7 +5,7 @@ mod Defaults
 mod Examples
 mod Known
 mod Meaning
-mod Programs
+pub mod Programs
 mod Readiness
 mod Sent
 mod Sounds

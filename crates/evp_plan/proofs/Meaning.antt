@@ -140,6 +140,7 @@ stands_as plan from to program machine fixed laid laid' none alike machine_is fi
     let is = wrote_is (made_by value limit) packed (measured limit (image_of from bytes) compiled_root [] 0 (length_of root)) (moved (image_of from bytes) (machine_of to) compiled_root 0 0 (length_of root)) converted size agrees inner in
     (wrote bytes ∙ is.0, is.1)) in
     record {
+      laid = laid';
       no_clash = none;
       alike = alike;
       length = same_fixed;

@@ -12,6 +12,13 @@ use Rattle.evp_format.specs.WellLaid.{extent, shape_extent, depth, branches_dept
 use Rattle.evp_plan.specs.Matching.{Content, numbers, texts, records, content_of, known_branches, known_named, part_for, op_for, inside_partner, compiled_tree, compiled, compiled_part}
 use Rattle.evp_plan.specs.Sound.{IsSoundPart, IsSoundOp, IsSound}
 
+-- a record has a byte
+some_bytes : (pointer size : ℕ) (nested : Tree) → size ≡ length_of nested → IsLaidTree pointer nested → 1 ≤ size
+some_bytes pointer size (tree length branches) same laid =
+    let allowed = laid.0.laid.length_allowed.0 in
+    let long = laid.0.has_length in
+    omega (arith, allowed, long, same)
+
 sound_part : (pointer size : ℕ) (part : Part) (partner : Option (Field × Content)) (Inside : ℕ → Type 0) → IsLaidPart pointer size part → Inside size
     → IsSoundPart pointer size (part_for size (content_of part) partner) Inside
 sound_part pointer size (number_part kind) None Inside laid inside = laid
@@ -19,7 +26,7 @@ sound_part pointer size (number_part kind) (Some (field, numbers other)) Inside 
 sound_part pointer size (number_part kind) (Some (field, texts)) Inside laid inside = laid
 sound_part pointer size (number_part kind) (Some (field, records)) Inside laid inside = laid
 sound_part pointer size text_part partner Inside laid inside = laid
-sound_part pointer size (tree_part nested) partner Inside laid inside = inside
+sound_part pointer size (tree_part nested) partner Inside laid inside = (some_bytes pointer size nested laid.0 laid.1, inside)
 
 sound_op : (pointer length : ℕ) (from all : List (Field × Content)) (field : Field) (shape : Shape) (part : Part) (partner : Option (Field × Content)) (Inside : ℕ → Type 0)
     → field.offset + shape_extent pointer shape field.size ≤ length → IsLaidPart pointer field.size part → Inside field.size

@@ -9,6 +9,7 @@ use Rattle.evp_format.specs.Layout.{Layout}
 use Rattle.evp_format.specs.Packing.{Pieces, Machine, put_pieces, pack}
 use Rattle.evp_format.specs.Tree.{root_of, length_of}
 use Rattle.evp_format.specs.Viewing.{Image, image_of, view}
+use Rattle.evp_format.specs.WellLaid.{IsWellLaid}
 use Rattle.evp_plan.specs.declared.step.Step.{Step}
 use Rattle.evp_plan.specs.Measuring.{measured, sized}
 use Rattle.evp_plan.specs.Moving.{moved}
@@ -50,6 +51,7 @@ laid_out pieces = put_pieces pieces.all (replicate pieces.size 0)
 
 -- the plan is one for the two formats: for each record of the first, what its steps find and write is the conversion into the second, packed
 pub record StandsFor (plan : Planned) (from to : Layout) : Type 0 where
+  pub laid : IsWellLaid to
   pub no_clash : clash from to ≡ None
   pub alike : IsTrue plan.alike ↔ (from ≡ to)
   pub length : plan.fixed ≡ length_of (root_of to)
@@ -61,3 +63,8 @@ pub record StandsFor (plan : Planned) (from to : Layout) : Type 0 where
       → laid_out (moved_whole plan (image_of from bytes)) ≡ pack to converted
   pub reads : (bytes : List ℕ) (value : Datum) → view from bytes ≡ Ok value → IsReady (image_of from bytes) (whole_program plan) 0
   pub sound : IsSound plan.pointer (whole_program plan) 16 plan.fixed
+
+-- the plan is one for records of this format
+pub record IsPlanFrom (plan : Planned) (from : Layout) : Type 0 where
+  pub to : Layout
+  pub stands : StandsFor plan from to

@@ -12,7 +12,7 @@ use Rattle.evp_plan.specs.Program.{Program, no_steps, performs}
 abbrev pub IsSoundPart : ℕ → ℕ → Part → (ℕ → Type 0) → Type 0
 IsSoundPart pointer size (part.Number kind from width) Inside = IsTrue (is_size_of kind size)
 IsSoundPart pointer size part.Text Inside = size ≡ pointer
-IsSoundPart pointer size part.Record Inside = Inside size
+IsSoundPart pointer size part.Record Inside = (1 ≤ size) × Inside size
 
 -- a field at an offset, of elements of this size, in a record of this length
 abbrev pub IsSoundOp : ℕ → ℕ → ℕ → ℕ → Op → (ℕ → Type 0) → Type 0

@@ -55,7 +55,7 @@ slice_get-fields_in (Some type) k = refl
 pub slice_get-type_fields : (layout : Layout) (n k : ℕ) (field : Field) → field_at layout n k ≡ Some field → slice_get (type_fields layout n) k ≡ Some field
 slice_get-type_fields layout n k field found = sym (slice_get-fields_in (slice_get layout.types n) k) ∙ found
 
-branch_at-branches_of : (earlier : List Tree) (fields : List Field) (k : ℕ) (field : Field) → slice_get fields k ≡ Some field
+pub branch_at-branches_of : (earlier : List Tree) (fields : List Field) (k : ℕ) (field : Field) → slice_get fields k ≡ Some field
     → branch_at (branches_of earlier fields) k ≡ Some (field, part_of earlier field.base)
 branch_at-branches_of earlier [] k field found = cc
 branch_at-branches_of earlier (first ∷ fields) zero field found =

@@ -1,7 +1,10 @@
 pub mod Entries
 pub mod Laid
+pub mod LeadFacts
+pub mod LeadWalks
 pub mod Lowered
 pub mod Marked
+pub mod NumbersRead
 pub mod Ranks
 pub mod Reading
 pub mod Roots

@@ -1,6 +1,8 @@
 pub mod Class
 pub mod Laws
+pub mod LeadMarks
 pub mod Marks
+pub mod NumberPieces
 pub mod Onto
 pub mod Owned
 pub mod OwnedBytes

@@ -3,6 +3,7 @@
 
 mod fields;
 mod laws;
+mod marker;
 mod owned;
 mod packing;
 mod part;
@@ -15,7 +16,7 @@ mod whole;
 mod words;
 
 pub use evp_format::Broken;
-pub use laws::{packed_is_viewed, viewed_is_of_format};
+pub use laws::{number_is_its_bytes, packed_is_viewed, reached_is_of_type, viewed_is_of_format};
 pub use owned::Owned;
 pub use packing::pack;
 pub use record::{Checked, check};

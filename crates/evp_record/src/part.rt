@@ -5,9 +5,10 @@ ghost use Rattle.evp_format.specs.Text.{HasNoZero};
 ghost use Rattle.evp_format.specs.Tree.{tree_of, length_of};
 ghost use Rattle.evp_format.specs.Viewing.{pointer_at, image_of};
 ghost use Rattle.evp_record.specs.Walks.{IsCountAt, count_number};
-ghost use Rattle.evp_format.specs.WellLaid.{IsWellLaid};
+ghost use Rattle.evp_format.specs.WellLaid.{IsWellLaid, IsNumberIn};
 ghost use Rattle.evp_format.specs.Datum.{num};
-ghost use Rattle.evp_record.specs.Class.{field_at, class_at, content_of, numbers, texts, records, IsSingle, IsArray, IsFieldOf, nested_number, type_fields};
+ghost use Rattle.evp_record.specs.Class.{field_at, class_at, content_of, array, numbers, texts, records, IsSingle, IsArray, IsFieldOf, nested_number, type_fields};
+ghost use Rattle.evp_record.specs.NumberPieces.{ArePieces};
 ghost use Rattle.evp_record.specs.Record.{IsRecord};
 ghost use Rattle.evp_record.specs.Parts.{IsBelow, list_length, text_value};
 ghost use Rattle.evp_record.specs.Spots.{IsReached, IsPartAt, part_at, element_at, value_at, value_there, elements_start};
@@ -134,11 +135,27 @@ impl<'a> Checked<'a> {
         }
     }
 
+    // The bytes of the elements of an array of numbers.
+    pub(crate) fn block(&self, spot: Spot, index: u16) -> &'a [u8]
+        requires reached { IsReached self.now spot }
+        requires class { class_at self.now.layout spot.type_number index ≡ Some (array numbers) }
+        ensures { ArePieces self.now spot index result.now }
+    {
+        let count = self.length(spot, index) as usize;
+        if count == 0 {
+            return &self.bytes()[..0];
+        }
+        let field = self.field(spot, index);
+        let from = self.start(spot, field);
+        &self.bytes()[from..from + count * field.size as usize]
+    }
+
     // The number that stands there.
     pub(crate) fn number(&self, part: Part) -> i128
         requires stands { IsPartAt self.now part.field.now part.at }
         requires content { content_of part.field.now.base ≡ numbers }
-        ensures { value_there self.now part.entry.field.now part.entry.at ≡ num result }
+        ensures value { value_there self.now part.entry.field.now part.entry.at ≡ num result }
+        ensures in_range { IsNumberIn part.entry.field.now.base part.entry.field.now.size result }
     {
         match part.field.base {
             Base::Number(kind) => {

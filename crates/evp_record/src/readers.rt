@@ -5,7 +5,8 @@ ghost use Rattle.std.specs.Prelude.{◌≡◌, Some, IfSome};
 ghost use Rattle.evp_format.specs.Text.{HasNoZero};
 ghost use Rattle.std.specs.Option.{option_copied};
 ghost use Rattle.evp_format.specs.Datum.{num};
-ghost use Rattle.evp_record.specs.Class.{class_at, single, array, numbers, texts, records, IsArray, nested_at};
+ghost use Rattle.evp_record.specs.Class.{field_at, class_at, single, array, numbers, texts, records, IsArray, nested_at};
+ghost use Rattle.evp_record.specs.NumberPieces.{ArePieces, IsInRangeOf};
 ghost use Rattle.evp_record.specs.Parts.{IsBelow, list_length, text_value};
 ghost use Rattle.evp_record.specs.Record.{value_of};
 ghost use Rattle.evp_record.specs.Spots.{IsReached, part_at, element_at, value_at, root_spot};
@@ -25,11 +26,12 @@ impl<'a> Checked<'a> {
         }
     }
 
-    /// The number of a single number field of the record at the spot.
+    /// The number of a single number field of the record at the spot, in the range of its field.
     pub fn number_at(&self, spot: Spot, field: u16) -> i128
         requires reached { IsReached self.now spot }
         requires class { class_at self.now.layout spot.type_number field ≡ Some (single numbers) }
-        ensures { part_at self.now spot field ≡ Some (num result) }
+        ensures value { part_at self.now spot field ≡ Some (num result) }
+        ensures in_range { IsInRangeOf (field_at self.now.layout spot.type_number field) result }
     {
         self.number(self.single(spot, field))
     }
@@ -66,14 +68,26 @@ impl<'a> Checked<'a> {
         self.length(spot, field)
     }
 
-    /// The number that is element k of an array field of the record at the spot.
+    /// The number that is element k of an array field of the record at the spot, in the range of its
+    /// field.
     pub fn number_in(&self, spot: Spot, field: u16, k: u32) -> i128
         requires reached { IsReached self.now spot }
         requires class { class_at self.now.layout spot.type_number field ≡ Some (array numbers) }
         requires within { IsBelow k (list_length (part_at self.now spot field)) }
-        ensures { element_at self.now spot field k ≡ Some (num result) }
+        ensures value { element_at self.now spot field k ≡ Some (num result) }
+        ensures in_range { IsInRangeOf (field_at self.now.layout spot.type_number field) result }
     {
         self.number(self.element(spot, field, k))
+    }
+
+    /// The bytes of the elements of an array of numbers of the record at the spot, one behind the
+    /// other: element k is the number of the k-th piece, and each piece is of the field's size.
+    pub fn elements(&self, spot: Spot, field: u16) -> &'a [u8]
+        requires reached { IsReached self.now spot }
+        requires class { class_at self.now.layout spot.type_number field ≡ Some (array numbers) }
+        ensures { ArePieces self.now spot field result.now }
+    {
+        self.block(spot, field)
     }
 
     /// The text that is element k of an array field of the record at the spot, without its zero

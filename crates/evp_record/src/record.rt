@@ -1,10 +1,12 @@
 //! Checked records, and the check that makes them.
 
-ghost use Rattle.std.specs.Prelude.{◌≡◌, ◌^◌, ◌<◌, length, Err, IsOk, IfOk, IfErr};
+ghost use Rattle.std.specs.Prelude.{◌≡◌, ◌^◌, ◌<◌, ◌≤◌, length, Err, IsOk, IsErr, IfOk, IfErr};
+ghost use Rattle.evp_format.specs.Tree.{root_of, length_of};
 ghost use Rattle.evp_format.specs.Viewing.{view};
 ghost use Rattle.evp_record.specs.Record.{IsRecord, record_of};
 
 use crate::Spot;
+use crate::marker::Marker;
 use crate::walk::check_record;
 use evp_format::{Broken, Format, Place};
 use std::marker::Model;
@@ -38,18 +40,34 @@ pub fn check<'a>(format: &'a Format, bytes: &'a [u8]) -> Result<Checked<'a>, Bro
     ensures viewed { IfOk result (λ _. IsOk (view format.now bytes.now)) }
     ensures fault { IfErr result (λ fault. view format.now bytes.now ≡ Err fault) }
 {
-    let types = format.types();
-    let last = types.len() - 1;
-    let length = types[last].length as usize;
+    let length = format.root().length as usize;
     if bytes.len() < length {
         return Err(Broken::ShortRecord);
     }
+    let last = format.types().len() - 1;
+    let end = Marker::new(format, bytes).record(last as u16, 0, length);
+    if end.is_none() {
+        return Err(first_fault(format, bytes));
+    }
+    Ok(Checked { format, bytes })
+}
+
+// The first fault of bytes that have one, and are long enough.
+fn first_fault(format: &Format, bytes: &[u8]) -> Broken
+    requires short { length bytes.now < 2 ^ 32 }
+    requires whole { length_of (root_of format.now) ≤ length bytes.now }
+    requires broken { IsErr (view format.now bytes.now) }
+    ensures { view format.now bytes.now ≡ Err result }
+{
+    let length = format.root().length as usize;
     let root = Spot {
-        type_number: last as u16,
+        type_number: (format.types().len() - 1) as u16,
         at: 0,
     };
-    check_record(format, bytes, root, &Place::root(), length)?;
-    Ok(Checked { format, bytes })
+    match check_record(format, bytes, root, &Place::root(), length) {
+        Err(fault) => fault,
+        Ok(_) => unreachable!(),
+    }
 }
 
 impl<'a> Checked<'a> {

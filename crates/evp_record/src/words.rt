@@ -8,6 +8,7 @@ ghost use Rattle.evp_format.specs.WellLaid.{IsWellLaid};
 
 use evp_base::{Kind, get_number};
 use evp_format::Format;
+use memchr::memchr;
 
 // The number that stands at `at`.
 pub(crate) fn number_at(format: &Format, bytes: &[u8], at: usize, kind: Kind, size: u32) -> i128
@@ -35,10 +36,5 @@ pub(crate) fn zero_at(bytes: &[u8]) -> Option<usize>
     ensures value { result ≡ option_map length (until_zero bytes.now) }
     ensures within { IfSome result (λ n. n < length bytes.now) }
 {
-    for (index, byte) in bytes.iter().enumerate() {
-        if *byte == 0 {
-            return Some(index);
-        }
-    }
-    None
+    memchr(0, bytes)
 }

@@ -1,41 +1,48 @@
-use Rattle.std.proofs.Common.{[], ◌∙◌, ap, arith, Ok, Err}
+use Rattle.std.proofs.Common.{◌+◌, ◌-◌, ◌≤◌, List, [], length, ap, sym, ◌∙◌, subst, arith}
 use Rattle.std.specs.Prelude.{IsOk}
-use Rattle.std.proofs.lemmas.Result.{err_from_is_err_and}
-use Rattle.evp_format.specs.Tree.{root_of, length_of}
+use Rattle.evp_format.specs.declared.record_type.RecordType.{RecordType}
+use Rattle.evp_format.specs.Tree.{root_of, length_of, tree_of}
 use Rattle.evp_format.specs.Viewing.{view, view_tree, image_of}
-use Rattle.evp_record.proofs.Viewed.{viewed-broken, viewed-read, view-short, view-walked, length_of_last, tree_of_last, marked_root}
+use Rattle.evp_record.specs.Record.{Record}
+use Rattle.evp_record.proofs.Viewed.{view-short, view-walked, length_of_root, root_mark, viewed-marked, viewed-unmarked}
 use Rattle.evp_record.proofs.record.check.Goals as goal
-use Rattle.evp_record.proofs.record.check.Goals.{In_ok-check_record}
+use Rattle.evp_record.proofs.record.check.Goals.{Else-is_none}
 
 pub returns-then-bytes-length-clause-fault : goal.returns-then-bytes-length-clause-fault
 returns-then-bytes-length-clause-fault c =
-    let long = length_of_last c.args.format.now c.types-types.result.now c.index-types-last.result c.types-types.ensures.laid c.types-types.ensures.value c.index-types-last.is in
+    let long = length_of_root c.args.format.now c.root.result.now c.root.ensures.laid c.root.ensures.value in
     view-short c.args.format.now c.args.bytes.now (omega (arith, long))
 
-pub check_record-requires-clause-inside : goal.check_record-requires-clause-inside
-check_record-requires-clause-inside c =
-    let long = length_of_last c.args.format.now c.types-types.result.now c.index-types-last.result c.types-types.ensures.laid c.types-types.ensures.value c.index-types-last.is in
-    let root = ap length_of (tree_of_last c.args.format.now c.types-types.result.now c.types-types.ensures.value) in
-    omega (arith, long, root)
-
-pub returns-in_err-check_record-clause-fault : goal.returns-in_err-check_record-clause-fault
-returns-in_err-check_record-clause-fault c =
+pub record-end-requires-clause-inside : goal.record-end-requires-clause-inside
+record-end-requires-clause-inside c =
     let layout = c.args.format.now in
-    let p = err_from_is_err_and c.from_residual.result c.from_residual.ensures.1 in
-    let long = length_of_last layout c.types-types.result.now c.index-types-last.result c.types-types.ensures.laid c.types-types.ensures.value c.index-types-last.is in
-    let walked =
-    marked_root layout c.args.bytes.now c.types-types.result.now c.index-types-last.result c.root.result (Err c.in_err-check_record.field-0.0)
-    c.types-types.ensures.laid c.types-types.ensures.value c.index-types-last.is c.root.ensures c.in_err-check_record.ensures.value in
-    rw (p.1, p.2) (view-walked layout c.args.bytes.now (omega (arith, long)) ∙ viewed-broken (view_tree (image_of layout c.args.bytes.now) (root_of layout) 0 [] (length_of (root_of layout))) _ walked)
+    let long = length_of_root layout c.root.result.now c.root.ensures.laid c.root.ensures.value in
+    let Inside : Record → Type 0 = λ held. 0 + length_of (tree_of held.layout (length c.types.result.now - 1)) ≤ length held.bytes in
+    let last = ap (λ (types : List RecordType). length_of (tree_of layout (length types - 1))) c.types.ensures.value in
+    subst Inside (sym c.new.ensures) (omega (arith, long, last))
 
-has_view : (c : In_ok-check_record) → IsOk (view c.args.format.now c.args.bytes.now)
+pub first_fault-requires-clause-whole : goal.first_fault-requires-clause-whole
+first_fault-requires-clause-whole c =
+    let long = length_of_root c.args.format.now c.root.result.now c.root.ensures.laid c.root.ensures.value in
+    omega (arith, long)
+
+pub first_fault-requires-clause-broken : goal.first_fault-requires-clause-broken
+first_fault-requires-clause-broken c =
+    let layout = c.args.format.now in
+    let bytes = c.args.bytes.now in
+    let long = length_of_root layout c.root.result.now c.root.ensures.laid c.root.ensures.value in
+    let mark = root_mark layout bytes c.new.result c.types.result.now c.root.result.now c.root.ensures.laid c.new.ensures c.types.ensures.value c.root.ensures.value in
+    rw (view-walked layout bytes (omega (arith, long)))
+    (viewed-unmarked (view_tree (image_of layout bytes) (root_of layout) 0 [] (length_of (root_of layout))) c.record-end.result (c.record-end.ensures.value ∙ mark) c.if-is_none.ensures)
+
+has_view : (c : Else-is_none) → IsOk (view c.args.format.now c.args.bytes.now)
 has_view c =
     let layout = c.args.format.now in
-    let long = length_of_last layout c.types-types.result.now c.index-types-last.result c.types-types.ensures.laid c.types-types.ensures.value c.index-types-last.is in
-    let walked =
-    marked_root layout c.args.bytes.now c.types-types.result.now c.index-types-last.result c.root.result (Ok c.in_ok-check_record.field-0)
-    c.types-types.ensures.laid c.types-types.ensures.value c.index-types-last.is c.root.ensures c.in_ok-check_record.ensures.value in
-    rw (view-walked layout c.args.bytes.now (omega (arith, long))) (viewed-read (view_tree (image_of layout c.args.bytes.now) (root_of layout) 0 [] (length_of (root_of layout))) c.in_ok-check_record.field-0 walked)
+    let bytes = c.args.bytes.now in
+    let long = length_of_root layout c.root.result.now c.root.ensures.laid c.root.ensures.value in
+    let mark = root_mark layout bytes c.new.result c.types.result.now c.root.result.now c.root.ensures.laid c.new.ensures c.types.ensures.value c.root.ensures.value in
+    rw (view-walked layout bytes (omega (arith, long)))
+    (viewed-marked (view_tree (image_of layout bytes) (root_of layout) 0 [] (length_of (root_of layout))) c.record-end.result (c.record-end.ensures.value ∙ mark) c.if-is_none.ensures)
 
 pub invariant_of-result : goal.invariant_of-result
 invariant_of-result c = record { short = c.requires; viewed = has_view c }

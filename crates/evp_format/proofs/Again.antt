@@ -1,5 +1,6 @@
 -- What is described is read again.
-use Rattle.std.proofs.Common.{◌≡◌, ℕ, zero, suc, ◌+◌, ◌-◌, ◌<◌, ◌≤◌, Bool, true, false, cond, inl, inr, List, [], ◌∷◌, ◌++◌, length, take, Option, Some, None, Result, Ok, codes, refl, sym, ap, subst, ◌∙◌, arith}
+use Rattle.std.proofs.Common.{◌≡◌, ℕ, zero, suc, ◌+◌, ◌-◌, ◌<◌, ◌≤◌, Bool, true, false, cond, inl, inr, List, [], ◌∷◌, ◌++◌, length, take}
+use Rattle.std.proofs.Common.{Option, Some, None, Result, Ok, codes, refl, sym, ap, subst, ◌∙◌, arith}
 use Rattle.std.specs.Prelude.{slice_index, ◌&&◌, not, nat_eq, nat_le}
 use Rattle.std.specs.Option.{ok_or}
 use Rattle.std.specs.Fmt.{decimal}
@@ -26,7 +27,8 @@ use Rattle.evp_format.specs.declared.type_text.Word.TheVariants.{Plain, Named}
 use Rattle.evp_format.specs.Bytes.{bytes_equal}
 use Rattle.evp_format.specs.Describing.{kind_word, type_name, base_word}
 use Rattle.evp_format.specs.Steps.{◌>>=◌}
-use Rattle.evp_format.specs.TypeText.{word_part, bracket_part, word_of, fixed_of, inside_of, shape_of, type_named, known_base, base_of, type_text_of}
+use Rattle.evp_format.specs.TypeText.{word_part, bracket_part, word_of, fixed_of, inside_of, shape_of, type_named, known_base, base_of}
+use Rattle.evp_format.specs.TypeText.{type_text_of}
 use Rattle.evp_format.specs.WellLaid.{is_reserved}
 use Rattle.evp_format.proofs.FixedTexts.{fixed_yes}
 use Rattle.evp_format.proofs.Pushed.{bytes_equal-true, bytes_equal-same, or_parts}
@@ -67,7 +69,8 @@ not_false true e = absurd (cc)
 not_false false e = refl
 
 -- a word, and behind it nothing or a bracket, comes apart there
-parts_apart : (word rest : List ℕ) → has_no_bracket word ≡ true → word_part rest ≡ [] → bracket_part rest ≡ rest → (word_part (word ++ rest) ≡ word) × (bracket_part (word ++ rest) ≡ rest)
+parts_apart : (word rest : List ℕ) → has_no_bracket word ≡ true → word_part rest ≡ [] → bracket_part rest ≡ rest
+    → (word_part (word ++ rest) ≡ word) × (bracket_part (word ++ rest) ≡ rest)
 parts_apart [] rest none no_word all = (no_word, all)
 parts_apart (byte ∷ word) rest none no_word all =
     let parts = and_parts (not (nat_eq byte 91)) (has_no_bracket word) none in
@@ -77,7 +80,8 @@ parts_apart (byte ∷ word) rest none no_word all =
       ap (λ (b : Bool). cond b (byte ∷ (word ++ rest)) (bracket_part (word ++ rest))) other ∙ later.1,
     )
 
-shape_no_word : (shape : DraftShape) → (word_part (stated_shape_text shape) ≡ []) × (bracket_part (stated_shape_text shape) ≡ stated_shape_text shape)
+shape_no_word : (shape : DraftShape) → (word_part (stated_shape_text shape) ≡ [])
+    × (bracket_part (stated_shape_text shape) ≡ stated_shape_text shape)
 shape_no_word One = (refl, refl)
 shape_no_word (Fixed n) = (refl, refl)
 shape_no_word (Counted name) = (refl, refl)
@@ -93,7 +97,8 @@ name_is_no_number (first ∷ others) numeral =
     let digit = digit_at (first ∷ others) 0 numeral.1 numeral.0 in
     ap (λ (b : Bool). b && (list_all continues_name others && nat_le (length others) 63)) (digit_begins_no_name first digit.0 digit.1)
 
-last_of : (inside : List ℕ) (byte : ℕ) → (slice_index (inside ++ byte ∷ []) (length inside) ≡ byte) × (take (length inside) (inside ++ byte ∷ []) ≡ inside)
+last_of : (inside : List ℕ) (byte : ℕ) → (slice_index (inside ++ byte ∷ []) (length inside) ≡ byte)
+    × (take (length inside) (inside ++ byte ∷ []) ≡ inside)
 last_of [] byte = (refl, refl)
 last_of (x ∷ inside) byte = let rest = last_of inside byte in (rest.0, ap (λ (some : List ℕ). x ∷ some) rest.1)
 
@@ -104,8 +109,10 @@ bracketed inside shape e =
     let long = length-append inside (93 ∷ []) in
     let n : length text - 1 ≡ length inside = omega (arith, long) in
     let last = last_of inside 93 in
-    let ends : nat_eq (slice_index text (length text - 1)) 93 ≡ true = ap (λ (k : ℕ). nat_eq (slice_index text k) 93) n ∙ ap (λ (byte : ℕ). nat_eq byte 93) last.0 in
-    ap (λ (b : Bool). cond b (inside_of (take (length text - 1) text)) None) ends ∙ ap (λ (k : ℕ). inside_of (take k text)) n ∙ ap inside_of last.1 ∙ e
+    let ends : nat_eq (slice_index text (length text - 1)) 93 ≡ true = ap (λ (k : ℕ). nat_eq (slice_index text k) 93) n
+    ∙ ap (λ (byte : ℕ). nat_eq byte 93) last.0 in
+    ap (λ (b : Bool). cond b (inside_of (take (length text - 1) text)) None) ends ∙ ap (λ (k : ℕ). inside_of (take k text)) n
+    ∙ ap inside_of last.1 ∙ e
 
 shape_again : (shape : DraftShape) → IsStatedShape shape → shape_of (stated_shape_text shape) ≡ Some shape
 unfolding shape_of inside_of
@@ -137,7 +144,8 @@ text_word_again = refl
 -- a name has no space
 spaced_is_no_name : (name : List ℕ) → is_name name ≡ true → bytes_equal name (codes "unsigned integer") ≡ false
 spaced_is_no_name name named = elim (cases_Bool (bytes_equal name (codes "unsigned integer"))) [
-  | inl equal ↦ absurd (let same = bytes_equal-true name (codes "unsigned integer") equal in let spaced : is_name (codes "unsigned integer") ≡ true = subst (λ (n : List ℕ). is_name n ≡ true) same named in cc)
+  | inl equal ↦ absurd (let same = bytes_equal-true name (codes "unsigned integer") equal in
+      let spaced : is_name (codes "unsigned integer") ≡ true = subst (λ (n : List ℕ). is_name n ≡ true) same named in cc)
   | inr other ↦ other
 ]
 
@@ -160,7 +168,8 @@ pub record AreNamed (types : List RecordType) : Type 0 where
   pub free : (k : ℕ) → k < length types → is_reserved (type_name types k) ≡ false
   pub differ : (i k : ℕ) → i < k → k < length types → bytes_equal (type_name types i) (type_name types k) ≡ false
 
-named_found : (types : List RecordType) (name : List ℕ) (from k : ℕ) → k < length types → type_name types k ≡ name → ((i : ℕ) → i < k → bytes_equal (type_name types i) name ≡ false)
+named_found : (types : List RecordType) (name : List ℕ) (from k : ℕ) → k < length types → type_name types k ≡ name
+    → ((i : ℕ) → i < k → bytes_equal (type_name types i) name ≡ false)
     → position_from (λ (type : RecordType). bytes_equal type.name name) from types ≡ Some (from + k)
 named_found [] name from k below is others = absurd (omega arith)
 named_found (first ∷ types) name from zero below is others =
@@ -177,19 +186,22 @@ word_for types (Number kind) = Plain (Number kind)
 word_for types Text = Plain Text
 word_for types (Nested k) = Named (type_name types k)
 
-word_again : (types : List RecordType) (base : Base) → AreNamed types → IsKnown types base → word_of (base_word types base) ≡ Some (word_for types base)
+word_again : (types : List RecordType) (base : Base) → AreNamed types → IsKnown types base → word_of (base_word types base)
+    ≡ Some (word_for types base)
 unfolding word_for
 word_again types (Number kind) are known = kind_again kind
 word_again types Text are known = text_word_again
 word_again types (Nested k) are known = named_again (type_name types k) (are.named k known) (are.free k known)
 
-base_again : (types : List RecordType) (type field : ℕ) (base : Base) → AreNamed types → IsKnown types base → base_of types type field (word_for types base) ≡ Ok base
+base_again : (types : List RecordType) (type field : ℕ) (base : Base) → AreNamed types → IsKnown types base
+    → base_of types type field (word_for types base) ≡ Ok base
 unfolding word_for base_of
 base_again types type field (Number kind) are known = refl
 base_again types type field Text are known = refl
 base_again types type field (Nested k) are known =
     let here : 0 + k ≡ k = omega arith in
-    let found : type_named types (type_name types k) ≡ Some k = named_found types (type_name types k) 0 k known refl (λ i less. are.differ i k less known) ∙ ap (λ (n : ℕ). Some n) here in
+    let found : type_named types (type_name types k) ≡ Some k = named_found types (type_name types k) 0 k known refl
+    (λ i less. are.differ i k less known) ∙ ap (λ (n : ℕ). Some n) here in
     ap (known_base type field) found
 
 kind_no_bracket : (kind : Kind) → has_no_bracket (kind_word kind) ≡ true
@@ -199,13 +211,15 @@ kind_no_bracket Char = refl
 kind_no_bracket Boolean = refl
 kind_no_bracket Enumeration = refl
 
-base_no_bracket : (types : List RecordType) (base : Base) → AreNamed types → IsKnown types base → has_no_bracket (base_word types base) ≡ true
+base_no_bracket : (types : List RecordType) (base : Base) → AreNamed types → IsKnown types base → has_no_bracket (base_word types base)
+    ≡ true
 base_no_bracket types (Number kind) are known = kind_no_bracket kind
 base_no_bracket types Text are known = refl
 base_no_bracket types (Nested k) are known = name_no_bracket (type_name types k) (are.named k known)
 
 -- what a type text says is said again by its spelling
-pub type_text_again : (types : List RecordType) (type field : ℕ) (base : Base) (shape : DraftShape) → AreNamed types → IsKnown types base → IsStatedShape shape
+pub type_text_again : (types : List RecordType) (type field : ℕ) (base : Base) (shape : DraftShape) → AreNamed types → IsKnown types base
+    → IsStatedShape shape
     → type_text_of types type field (base_word types base ++ stated_shape_text shape) ≡ Ok (base, shape)
 unfolding type_text_of
 type_text_again types type field base shape are known stated =
@@ -215,8 +229,10 @@ type_text_again types type field base shape are known stated =
     let word : word_of (word_part text) ≡ Some (word_for types base) = ap word_of apart.0 ∙ word_again types base are known in
     let said : shape_of (bracket_part text) ≡ Some shape = ap shape_of apart.1 ∙ shape_again shape stated in
     let based = base_again types type field base are known in
-    let with_shape : Word → DraftShape → Result (Base × DraftShape) LayoutFault = λ word shape. base_of types type field word >>= λ base. Ok (base, shape) in
-    let with_word : Word → Result (Base × DraftShape) LayoutFault = λ word. ok_or (shape_of (bracket_part text)) (TypeText type field) >>= with_shape word in
+    let with_shape : Word → DraftShape → Result (Base × DraftShape) LayoutFault = λ word shape. base_of types type field word
+    >>= λ base. Ok (base, shape) in
+    let with_word : Word → Result (Base × DraftShape) LayoutFault = λ word. ok_or (shape_of (bracket_part text)) (TypeText type field)
+    >>= with_shape word in
     ap (λ (o : Option Word). ok_or o (TypeText type field) >>= with_word) word
     ∙ ap (λ (o : Option DraftShape). ok_or o (TypeText type field) >>= with_shape (word_for types base)) said
     ∙ ap (λ (r : Result Base LayoutFault). r >>= λ base. Ok (base, shape)) based
@@ -249,7 +265,8 @@ shape_short (Counted name) stated =
     let long' = length-append (codes "[") name in
     omega (arith, short, long, long')
 
-pub type_text_short : (types : List RecordType) (base : Base) (shape : DraftShape) → AreNamed types → IsKnown types base → IsStatedShape shape
+pub type_text_short : (types : List RecordType) (base : Base) (shape : DraftShape) → AreNamed types → IsKnown types base
+    → IsStatedShape shape
     → length (base_word types base ++ stated_shape_text shape) < 256
 type_text_short types base shape are known stated =
     let front = base_short types base are known in

@@ -1,11 +1,13 @@
 -- A list with one more element at its end, and tests of lists.
-use Rattle.std.proofs.Common.{◌≡◌, ℕ, zero, suc, ◌<◌, Bool, true, false, ◌||◌, ◌⊎◌, inl, inr, List, [], ◌∷◌, ◌++◌, length, Some, refl, sym, ap, subst, ◌∙◌, arith}
+use Rattle.std.proofs.Common.{◌≡◌, ℕ, zero, suc, ◌<◌, Bool, true, false, ◌||◌, ◌⊎◌, inl, inr, List, [], ◌∷◌, ◌++◌, length, Some, refl, sym}
+use Rattle.std.proofs.Common.{ap, subst, ◌∙◌, arith}
 use Rattle.std.specs.Prelude.{slice_get, nat_eq}
 use Rattle.std.specs.List.{list_any}
 use Rattle.std.proofs.lemmas.Bool.{and_parts, eqb-true, eq-eqb}
 use Rattle.evp_format.specs.Bytes.{bytes_equal}
 
-pub slice_get-push : {A : Type 0} (xs : List A) (x : A) (k : ℕ) (y : A) → slice_get (xs ++ x ∷ []) k ≡ Some y → ((k < length xs) × (slice_get xs k ≡ Some y)) ⊎ ((k ≡ length xs) × (x ≡ y))
+pub slice_get-push : {A : Type 0} (xs : List A) (x : A) (k : ℕ) (y : A) → slice_get (xs ++ x ∷ []) k ≡ Some y
+    → ((k < length xs) × (slice_get xs k ≡ Some y)) ⊎ ((k ≡ length xs) × (x ≡ y))
 slice_get-push [] x zero y found = inr (refl, cc)
 slice_get-push [] x (suc k) y found = absurd (cc)
 slice_get-push (z ∷ xs) x zero y found = inl (omega arith, found)
@@ -26,7 +28,8 @@ slice_get-front (z ∷ xs) ys zero x found = found
 slice_get-front (z ∷ xs) ys (suc k) x found = slice_get-front xs ys k x found
 
 -- what holds of each element holds of each of the longer list
-pub each-push : {A : Type 0} (P : ℕ → A → Type 0) (xs : List A) (x : A) → ((k : ℕ) (y : A) → slice_get xs k ≡ Some y → P k y) → P (length xs) x
+pub each-push : {A : Type 0} (P : ℕ → A → Type 0) (xs : List A) (x : A) → ((k : ℕ) (y : A) → slice_get xs k ≡ Some y → P k y)
+    → P (length xs) x
     → (k : ℕ) (y : A) → slice_get (xs ++ x ∷ []) k ≡ Some y → P k y
 each-push {A} P xs x old new k y found = elim (slice_get-push xs x k y found) [
   | inl there ↦ old k y there.1
@@ -55,7 +58,8 @@ pub or_parts : (a b : Bool) → (a || b) ≡ false → (a ≡ false) × (b ≡ f
 or_parts true b neither = absurd (cc)
 or_parts false b neither = (refl, neither)
 
-pub list_any-none : {A : Type 0} (p : A → Bool) (xs : List A) (k : ℕ) (x : A) → list_any p xs ≡ false → slice_get xs k ≡ Some x → p x ≡ false
+pub list_any-none : {A : Type 0} (p : A → Bool) (xs : List A) (k : ℕ) (x : A) → list_any p xs ≡ false → slice_get xs k ≡ Some x → p x
+    ≡ false
 list_any-none p [] k x none found = absurd (cc)
 list_any-none p (y ∷ xs) zero x none found = let same : y ≡ x = cc in ap p (sym same) ∙ (or_parts (p y) (list_any p xs) none).0
 list_any-none p (y ∷ xs) (suc k) x none found = list_any-none p xs k x (or_parts (p y) (list_any p xs) none).1 found

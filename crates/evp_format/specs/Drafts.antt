@@ -1,5 +1,8 @@
--- A record type whose fields are stated one by one: what each may be, and what is tested where the type ends.
-use Rattle.std.specs.Prelude.{ℕ, ◌+◌, ℤ, pos, Bool, true, false, not, ◌&&◌, ◌||◌, nat_eq, nat_le, if◌then◌else◌, List, [], ◌∷◌, Option, Some, None, Result, Ok, Err, slice_get}
+-- A record type whose fields are stated one by one: what each may be, and what is tested where the
+-- type ends.
+use Rattle.std.specs.Prelude.{ℕ, ◌+◌, ℤ, pos, Bool, true, false, not, ◌&&◌, ◌||◌, nat_eq, nat_le}
+use Rattle.std.specs.Prelude.{if◌then◌else◌, List, [], ◌∷◌, Option, Some, None, Result, Ok, Err}
+use Rattle.std.specs.Prelude.{slice_get}
 use Rattle.std.specs.Ordering.{int_eq}
 use Rattle.std.specs.List.{list_any, position_from}
 use Rattle.std.specs.Option.{ok_or}
@@ -14,7 +17,8 @@ use Rattle.evp_format.specs.declared.field.Field.{Field}
 use Rattle.evp_format.specs.declared.field.Shape.{Shape}
 use Rattle.evp_format.specs.declared.field.Shape.TheVariants.{One, Fixed, Counted}
 use Rattle.evp_format.specs.declared.layout_fault.LayoutFault.{LayoutFault}
-use Rattle.evp_format.specs.declared.layout_fault.LayoutFault.TheVariants.{CountField, CountDefault, Overlap, Limit}
+use Rattle.evp_format.specs.declared.layout_fault.LayoutFault.TheVariants.{CountField, CountDefault}
+use Rattle.evp_format.specs.declared.layout_fault.LayoutFault.TheVariants.{Overlap, Limit}
 use Rattle.evp_format.specs.declared.layout_fault.Which.TheVariants.{Nesting}
 use Rattle.evp_format.specs.declared.record_type.RecordType.{RecordType}
 use Rattle.evp_format.specs.Bytes.{bytes_equal}
@@ -34,7 +38,8 @@ has_type types name = list_any (λ (type : RecordType). bytes_equal type.name na
 abbrev pub nested_length : List RecordType → ℕ → ℕ
 nested_length types k = elim (slice_get types k) [ None ↦ 0 | Some type ↦ type.length ]
 
--- a size that a base may have: a number's by its kind, the pointer's for a string, the type's length for a record
+-- a size that a base may have: a number's by its kind, the pointer's for a string, the type's
+-- length for a record
 abbrev pub is_base_size : ℕ → List RecordType → Base → ℕ → Bool
 is_base_size pointer earlier (Number kind) size = is_size_of kind size
 is_base_size pointer earlier Text size = nat_eq size pointer
@@ -47,7 +52,14 @@ draft_extent pointer (draft.Fixed n) size = shape_extent pointer (Fixed n) size
 draft_extent pointer (draft.Counted name) size = pointer
 
 abbrev pub draft_of : List ℕ → Base × DraftShape → ℕ → ℕ → ℤ → DraftField
-draft_of name said size offset fallback = record { name = name; base = said.0; shape = said.1; size = size; offset = offset; fallback = fallback }
+draft_of name said size offset fallback = record {
+  name = name;
+  base = said.0;
+  shape = said.1;
+  size = size;
+  offset = offset;
+  fallback = fallback;
+}
 
 -- a number in the range of a single number field
 abbrev pub is_single_number : Base → DraftShape → ℕ → ℤ → Bool
@@ -87,10 +99,19 @@ shape_in fields (draft.Fixed n) = Some (Fixed n)
 shape_in fields (draft.Counted name) = counted_by (count_named fields name)
 
 abbrev pub field_with : DraftField → Shape → Field
-field_with field shape = record { name = field.name; base = field.base; shape = shape; size = field.size; offset = field.offset; fallback = field.fallback }
+field_with field shape = record {
+  name = field.name;
+  base = field.base;
+  shape = shape;
+  size = field.size;
+  offset = field.offset;
+  fallback = field.fallback;
+}
 
--- these fields from number k on, of a type whose fields are `all`, or the first array without a count field
-unfoldable pub counted_fields : ℕ → ℕ → List DraftField → List DraftField → Result (List Field) LayoutFault
+-- these fields from number k on, of a type whose fields are `all`, or the first array without a
+-- count field
+unfoldable pub counted_fields : ℕ → ℕ → List DraftField → List DraftField
+    → Result (List Field) LayoutFault
 counted_fields type k all [] = Ok []
 counted_fields type k all (field ∷ rest) = do
   shape ← ok_or (shape_in all field.shape) (CountField type k)
@@ -114,26 +135,31 @@ is_defaulted_count all k field = not (int_eq field.fallback (pos 0)) && is_count
 -- the first of these fields, from number k on, that is a count and has a default other than 0
 abbrev pub count_with_default : List Field → ℕ → List Field → Option ℕ
 count_with_default all k [] = None
-count_with_default all k (field ∷ rest) = if is_defaulted_count all k field then Some k else count_with_default all (k + 1) rest
+count_with_default all k (field ∷ rest) =
+    if is_defaulted_count all k field then Some k else count_with_default all (k + 1) rest
 
 -- the bytes of the two fields are apart
 abbrev pub are_apart : ℕ → Field → Field → Bool
-are_apart pointer field other = nat_le (field.offset + extent pointer field) other.offset || nat_le (other.offset + extent pointer other) field.offset
+are_apart pointer field other = nat_le (field.offset + extent pointer field) other.offset
+    || nat_le (other.offset + extent pointer other) field.offset
 
 -- the first of these fields, from number k on, that has bytes in common with a field
 abbrev pub overlap_with : ℕ → Field → ℕ → List Field → Option ℕ
 overlap_with pointer field k [] = None
-overlap_with pointer field k (other ∷ rest) = if are_apart pointer field other then overlap_with pointer field (k + 1) rest else Some k
+overlap_with pointer field k (other ∷ rest) =
+    if are_apart pointer field other then overlap_with pointer field (k + 1) rest else Some k
 
 -- a field with another, or else a later pair
 abbrev pub first_pair : ℕ → Option ℕ → Option (ℕ × ℕ) → Option (ℕ × ℕ)
 first_pair k None later = later
 first_pair k (Some other) later = Some (k, other)
 
--- the first pair of these fields, from number k on, that have bytes in common: by the first field, and then by the second
+-- the first pair of these fields, from number k on, that have bytes in common: by the first field,
+-- and then by the second
 abbrev pub first_overlap : ℕ → ℕ → List Field → Option (ℕ × ℕ)
 first_overlap pointer k [] = None
-first_overlap pointer k (field ∷ rest) = first_pair k (overlap_with pointer field (k + 1) rest) (first_overlap pointer (k + 1) rest)
+first_overlap pointer k (field ∷ rest) = first_pair k (overlap_with pointer field (k + 1) rest)
+    (first_overlap pointer (k + 1) rest)
 
 abbrev pub type_of : List ℕ → ℕ → List Field → RecordType
 type_of name length fields = record { name = name; length = length; fields = fields }
@@ -144,12 +170,16 @@ depth_behind earlier type = depth (resolved (trees earlier) type)
 
 -- no count states a default
 unfoldable pub without_count_default : ℕ → RecordType → Result RecordType LayoutFault
-without_count_default number type = refused_by (count_with_default type.fields 0 type.fields) (λ k. CountDefault number k) type
+without_count_default number type = refused_by (count_with_default type.fields 0 type.fields)
+    (λ k. CountDefault number k) type
 
 -- the type nests no deeper than 16
 unfoldable pub within_nesting : List RecordType → RecordType → Result RecordType LayoutFault
-within_nesting earlier type = if nat_le (depth_behind earlier type) 16 then Ok type else Err (Limit Nesting (depth_behind earlier type))
+within_nesting earlier type =
+    if nat_le (depth_behind earlier type) 16 then Ok type
+    else Err (Limit Nesting (depth_behind earlier type))
 
 -- no two fields have bytes in common
 unfoldable pub without_overlap : ℕ → ℕ → RecordType → Result RecordType LayoutFault
-without_overlap pointer number type = refused_by (first_overlap pointer 0 type.fields) (λ pair. Overlap number pair.0 pair.1) type
+without_overlap pointer number type = refused_by (first_overlap pointer 0 type.fields)
+    (λ pair. Overlap number pair.0 pair.1) type

@@ -1,6 +1,9 @@
--- The first fault of a description, from left to right: each part is read and tested before the next. A part that is cut is a
--- fault at the offset of its first byte. What is read is a value and the offset behind it.
-use Rattle.std.specs.Prelude.{ℕ, zero, suc, ◌+◌, ℤ, pos, Bool, true, false, not, ◌&&◌, nat_eq, nat_le, nat_lt, if◌then◌else◌, List, [], ◌∷◌, ◌++◌, length, take, Option, Result, Ok, Err, codes}
+-- The first fault of a description, from left to right: each part is read and tested before the
+-- next. A part that is cut is a fault at the offset of its first byte. What is read is a value and
+-- the offset behind it.
+use Rattle.std.specs.Prelude.{ℕ, zero, suc, ◌+◌, ℤ, pos, Bool, true, false, not, ◌&&◌, nat_eq}
+use Rattle.std.specs.Prelude.{nat_le, nat_lt, if◌then◌else◌, List, [], ◌∷◌, ◌++◌, length, take}
+use Rattle.std.specs.Prelude.{Option, Result, Ok, Err, codes}
 use Rattle.evp_base.specs.declared.order.Order.{Order}
 use Rattle.evp_base.specs.declared.order.Order.TheVariants.{Little, Big}
 use Rattle.evp_base.specs.Numbers.{magnitude, twos_complement}
@@ -8,14 +11,18 @@ use Rattle.evp_format.specs.declared.draft.DraftField.{DraftField}
 use Rattle.evp_format.specs.declared.draft.DraftShape.{DraftShape}
 use Rattle.evp_format.specs.declared.field.Base.{Base}
 use Rattle.evp_format.specs.declared.layout_fault.LayoutFault.{LayoutFault}
-use Rattle.evp_format.specs.declared.layout_fault.LayoutFault.TheVariants.{Short, Magic, ByteOrder, Pointer, Trailing, Outside, Limit, Plain as PlainFault}
+use Rattle.evp_format.specs.declared.layout_fault.LayoutFault.TheVariants.{Short, Magic, ByteOrder}
+use Rattle.evp_format.specs.declared.layout_fault.LayoutFault.TheVariants.{Pointer, Trailing}
+use Rattle.evp_format.specs.declared.layout_fault.LayoutFault.TheVariants.{Outside, Limit}
+use Rattle.evp_format.specs.declared.layout_fault.LayoutFault.TheVariants.{Plain as PlainFault}
 use Rattle.evp_format.specs.declared.layout_fault.Which.TheVariants.{Types, Length}
 use Rattle.evp_format.specs.declared.record_type.RecordType.{RecordType}
 use Rattle.evp_format.specs.Bytes.{bytes_at, bytes_equal}
 use Rattle.evp_format.specs.Describing.{states_default}
 use Rattle.evp_format.specs.Drafts.{draft_extent, draft_of, without_overlap}
 use Rattle.evp_format.specs.Layout.{Layout, layout_with}
-use Rattle.evp_format.specs.Parts.{new_type_name, new_field_count, new_field_name, allowed_size, allowed_default, ended_type}
+use Rattle.evp_format.specs.Parts.{new_type_name, new_field_count, new_field_name, allowed_size}
+use Rattle.evp_format.specs.Parts.{allowed_default, ended_type}
 use Rattle.evp_format.specs.Steps.{◌>>=◌, tested, fault_of}
 use Rattle.evp_format.specs.TypeText.{type_text_of}
 use Rattle.evp_format.specs.WellLaid.{all_fields}
@@ -24,15 +31,18 @@ use Rattle.evp_format.specs.WellLaid.{all_fields}
 
 -- an unsigned number of `size` bytes
 unfoldable pub number_at : ℕ → List ℕ → ℕ → Result (ℕ × ℕ) LayoutFault
-number_at size bytes at = if nat_lt (length bytes) (at + size) then Err (Short at) else Ok (magnitude Big (bytes_at at size bytes), at + size)
+number_at size bytes at = if nat_lt (length bytes) (at + size) then Err (Short at)
+    else Ok (magnitude Big (bytes_at at size bytes), at + size)
 
 -- a number of 16 bytes in two's complement
 unfoldable pub signed_at : List ℕ → ℕ → Result (ℤ × ℕ) LayoutFault
-signed_at bytes at = if nat_lt (length bytes) (at + 16) then Err (Short at) else Ok (twos_complement 16 (magnitude Big (bytes_at at 16 bytes)), at + 16)
+signed_at bytes at = if nat_lt (length bytes) (at + 16) then Err (Short at)
+    else Ok (twos_complement 16 (magnitude Big (bytes_at at 16 bytes)), at + 16)
 
 -- the bytes behind a length byte: one part with it
 unfoldable pub text_behind : List ℕ → ℕ → ℕ → Result (List ℕ × ℕ) LayoutFault
-text_behind bytes at size = if nat_lt (length bytes) (at + 1 + size) then Err (Short at) else Ok (bytes_at (at + 1) size bytes, at + 1 + size)
+text_behind bytes at size = if nat_lt (length bytes) (at + 1 + size) then Err (Short at)
+    else Ok (bytes_at (at + 1) size bytes, at + 1 + size)
 
 unfoldable pub text_at : List ℕ → ℕ → Result (List ℕ × ℕ) LayoutFault
 text_at bytes at = do
@@ -46,12 +56,16 @@ unfoldable pub field_name_at : ℕ → List DraftField → List ℕ → ℕ → 
 field_name_at type before bytes at = tested (text_at bytes at) (new_field_name type before)
 
 -- a type text: what it says
-unfoldable pub field_type_at : List RecordType → ℕ → List ℕ → ℕ → Result ((Base × DraftShape) × ℕ) LayoutFault
-field_type_at earlier field bytes at = tested (text_at bytes at) (type_text_of earlier (length earlier) field)
+unfoldable pub field_type_at : List RecordType → ℕ → List ℕ → ℕ
+    → Result ((Base × DraftShape) × ℕ) LayoutFault
+field_type_at earlier field bytes at = tested (text_at bytes at)
+    (type_text_of earlier (length earlier) field)
 
 -- a size that the base may have
-unfoldable pub field_size_at : ℕ → List RecordType → ℕ → Base → List ℕ → ℕ → Result (ℕ × ℕ) LayoutFault
-field_size_at pointer earlier field base bytes at = tested (number_at 4 bytes at) (allowed_size pointer earlier field base)
+unfoldable pub field_size_at : ℕ → List RecordType → ℕ → Base → List ℕ → ℕ
+    → Result (ℕ × ℕ) LayoutFault
+field_size_at pointer earlier field base bytes at = tested (number_at 4 bytes at)
+    (allowed_size pointer earlier field base)
 
 -- an offset from which the extent ends within the type's length
 unfoldable pub field_offset_at : ℕ → ℕ → ℕ → ℕ → List ℕ → ℕ → Result (ℕ × ℕ) LayoutFault
@@ -62,10 +76,12 @@ field_offset_at type field taken room bytes at = do
 -- a default that the field may have, where defaults are stated, else 0
 unfoldable pub default_at : Bool → ℕ → DraftField → ℕ → List ℕ → ℕ → Result (ℤ × ℕ) LayoutFault
 default_at false type field number bytes at = Ok (pos 0, at)
-default_at true type field number bytes at = tested (signed_at bytes at) (allowed_default type number field)
+default_at true type field number bytes at = tested (signed_at bytes at)
+    (allowed_default type number field)
 
 -- a field of the type behind `earlier` that has `room` bytes, behind the fields `before`
-unfoldable pub field_at : Bool → ℕ → List RecordType → ℕ → List DraftField → List ℕ → ℕ → Result (DraftField × ℕ) LayoutFault
+unfoldable pub field_at : Bool → ℕ → List RecordType → ℕ → List DraftField → List ℕ → ℕ
+    → Result (DraftField × ℕ) LayoutFault
 field_at stated pointer earlier room before bytes at = do
   name ← field_name_at (length earlier) before bytes at
   said ← field_type_at earlier (length before) bytes name.1
@@ -75,7 +91,8 @@ field_at stated pointer earlier room before bytes at = do
   Ok (draft_of name.0 said.0 size.0 offset.0 fallback.0, fallback.1)
 
 -- so many more fields
-unfoldable pub fields_at : ℕ → Bool → ℕ → List RecordType → ℕ → List DraftField → List ℕ → ℕ → Result (List DraftField × ℕ) LayoutFault
+unfoldable pub fields_at : ℕ → Bool → ℕ → List RecordType → ℕ → List DraftField → List ℕ → ℕ
+    → Result (List DraftField × ℕ) LayoutFault
 fields_at zero stated pointer earlier room before bytes at = Ok (before, at)
 fields_at (suc count) stated pointer earlier room before bytes at = do
   field ← field_at stated pointer earlier room before bytes at
@@ -98,11 +115,14 @@ unfoldable pub field_count_at : ℕ → List ℕ → ℕ → Result (ℕ × ℕ)
 field_count_at so_far bytes at = tested (number_at 2 bytes at) (new_field_count so_far)
 
 -- what is tested where a type ends: its count fields, their defaults, the nesting, the overlaps
-unfoldable pub whole_type : ℕ → List RecordType → List ℕ → ℕ → List DraftField → Result RecordType LayoutFault
-whole_type pointer earlier name room drafts = ended_type earlier name room drafts >>= without_overlap pointer (length earlier)
+unfoldable pub whole_type : ℕ → List RecordType → List ℕ → ℕ → List DraftField
+    → Result RecordType LayoutFault
+whole_type pointer earlier name room drafts = ended_type earlier name room drafts
+    >>= without_overlap pointer (length earlier)
 
 -- a type behind these
-unfoldable pub type_at : Bool → ℕ → List RecordType → List ℕ → ℕ → Result (RecordType × ℕ) LayoutFault
+unfoldable pub type_at : Bool → ℕ → List RecordType → List ℕ → ℕ
+    → Result (RecordType × ℕ) LayoutFault
 type_at stated pointer earlier bytes at = do
   name ← type_name_at earlier bytes at
   room ← type_length_at bytes name.1
@@ -112,7 +132,8 @@ type_at stated pointer earlier bytes at = do
   Ok (type, fields.1)
 
 -- so many more types
-unfoldable pub types_at : ℕ → Bool → ℕ → List RecordType → List ℕ → ℕ → Result (List RecordType × ℕ) LayoutFault
+unfoldable pub types_at : ℕ → Bool → ℕ → List RecordType → List ℕ → ℕ
+    → Result (List RecordType × ℕ) LayoutFault
 types_at zero stated pointer earlier bytes at = Ok (earlier, at)
 types_at (suc count) stated pointer earlier bytes at = do
   type ← type_at stated pointer earlier bytes at
@@ -124,17 +145,20 @@ types_at (suc count) stated pointer earlier bytes at = do
 unfoldable pub magic_at : List ℕ → Result (Bool × ℕ) LayoutFault
 magic_at bytes =
     if nat_lt (length bytes) 4 then Err (Short 0)
-    else (if bytes_equal (take 4 bytes) (codes "NDF1") then Ok (false, 4) else (if bytes_equal (take 4 bytes) (codes "NDF2") then Ok (true, 4) else Err Magic))
+    else (if bytes_equal (take 4 bytes) (codes "NDF1") then Ok (false, 4)
+    else (if bytes_equal (take 4 bytes) (codes "NDF2") then Ok (true, 4) else Err Magic))
 
 unfoldable pub order_at : List ℕ → ℕ → Result (Order × ℕ) LayoutFault
 order_at bytes at = do
   order ← number_at 1 bytes at
-  if nat_eq order.0 0 then Ok (Little, order.1) else (if nat_eq order.0 1 then Ok (Big, order.1) else Err ByteOrder)
+  if nat_eq order.0 0 then Ok (Little, order.1) else
+      (if nat_eq order.0 1 then Ok (Big, order.1) else Err ByteOrder)
 
 unfoldable pub pointer_at : List ℕ → ℕ → Result (ℕ × ℕ) LayoutFault
 pointer_at bytes at = do
   pointer ← number_at 1 bytes at
-  if nat_eq pointer.0 4 then Ok pointer else (if nat_eq pointer.0 8 then Ok pointer else Err Pointer)
+  if nat_eq pointer.0 4 then Ok pointer else
+      (if nat_eq pointer.0 8 then Ok pointer else Err Pointer)
 
 -- a number of types from 1 to 64
 unfoldable pub type_count_at : List ℕ → ℕ → Result (ℕ × ℕ) LayoutFault
@@ -144,7 +168,8 @@ type_count_at bytes at = do
 
 -- where defaults are stated, some default isn't 0
 unfoldable pub with_default : Bool → Layout → ℕ → Result (Layout × ℕ) LayoutFault
-with_default stated layout at = if stated && not (states_default layout) then Err PlainFault else Ok (layout, at)
+with_default stated layout at = if stated && not (states_default layout) then Err PlainFault
+    else Ok (layout, at)
 
 -- the format that is described at the front, and the offset behind its last field
 unfoldable pub layout_at : List ℕ → Result (Layout × ℕ) LayoutFault

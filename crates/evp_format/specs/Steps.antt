@@ -4,12 +4,14 @@ use Rattle.evp_format.specs.declared.layout_fault.LayoutFault.{LayoutFault}
 use Rattle.evp_format.specs.declared.layout_fault.LayoutFault.TheVariants.{Memory}
 
 infixl 10 ◌>>=◌
-abbrev pub ◌>>=◌ : {A B : Type 0} → Result A LayoutFault → (A → Result B LayoutFault) → Result B LayoutFault
+abbrev pub ◌>>=◌ : {A B : Type 0} → Result A LayoutFault → (A → Result B LayoutFault)
+    → Result B LayoutFault
 (Ok x) >>= f = f x
 (Err fault) >>= f = Err fault
 
 -- what stands at an offset, tested: its value, and the offset behind it
-abbrev pub tested : {A B : Type 0} → Result (A × ℕ) LayoutFault → (A → Result B LayoutFault) → Result (B × ℕ) LayoutFault
+abbrev pub tested : {A B : Type 0} → Result (A × ℕ) LayoutFault → (A → Result B LayoutFault)
+    → Result (B × ℕ) LayoutFault
 tested read test = read >>= λ x. test x.0 >>= λ y. Ok (y, x.1)
 
 -- what a call answered, seen by a view, is what the definition says
@@ -17,7 +19,8 @@ abbrev pub Says : {X Y : Type 0} → (X → Y) → Result X LayoutFault → Resu
 Says view (Ok x) said = said ≡ Ok (view x)
 Says view (Err fault) said = said ≡ Err fault
 
--- the same, unless there was no memory: what a call answered is what the definition says, unless there was no memory
+-- the same, unless there was no memory: what a call answered is what the definition says, unless
+-- there was no memory
 abbrev pub Gives : {X Y : Type 0} → (X → Y) → Result X LayoutFault → Result Y LayoutFault → Type 0
 Gives view (Ok x) said = said ≡ Ok (view x)
 Gives view (Err fault) said = fault ≢ Memory → said ≡ Err fault

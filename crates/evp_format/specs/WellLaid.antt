@@ -1,5 +1,5 @@
 -- What makes a format well laid: names, sizes, places, counts and defaults, and the limits of this middleware.
-use Rattle.std.specs.Prelude.{◌≡◌, ◌≢◌, ℕ, suc, ◌+◌, ◌*◌, ◌≤◌, ◌<◌, ℤ, pos, Bool, false, ◌||◌, IsTrue, ◌⊎◌, List, length, take, max, slice_get, sum, map, codes, Some, ⊤}
+use Rattle.std.specs.Prelude.{◌≡◌, ◌≢◌, ℕ, suc, ◌+◌, ◌*◌, ◌≤◌, ◌<◌, ℤ, pos, Bool, false, not, ◌&&◌, ◌||◌, IsTrue, ◌⊎◌, List, length, take, max, slice_get, sum, map, codes, Some, ⊤}
 use Rattle.evp_base.specs.declared.kind.Kind.TheVariants.{Int, Unsigned, Char, Boolean, Enumeration}
 use Rattle.evp_base.specs.Name.{is_name}
 use Rattle.evp_base.specs.Numbers.{is_size_of, InRange}
@@ -18,6 +18,10 @@ abbrev pub is_reserved : List ℕ → Bool
 is_reserved name =
     bytes_equal name (codes "integer") || (bytes_equal name (codes "unsigned") || (bytes_equal name (codes "char") || (bytes_equal name (codes "boolean")
     || (bytes_equal name (codes "enumeration") || (bytes_equal name (codes "string") || bytes_equal name (codes "float"))))))
+
+-- a record type's name
+abbrev pub is_type_name : List ℕ → Bool
+is_type_name text = is_name text && not (is_reserved text)
 
 -- the bytes that a field takes inside its record: a counted array leaves a pointer there
 abbrev pub shape_extent : ℕ → Shape → ℕ → ℕ

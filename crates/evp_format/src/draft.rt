@@ -1,7 +1,8 @@
 //! Fields as they are stated: an array's count goes by its name.
 
 ghost use Rattle.std.specs.Prelude.{◌≡◌, ◌^◌, ◌<◌, ◌≤◌, ◌-◌, length, IsTrue};
-ghost use Rattle.evp_format.specs.Drafts.{has_field, has_type, is_base_size, nested_length, draft_extent, draft_of, may_default, may_count};
+ghost use Rattle.evp_format.specs.Drafts.{has_field, has_type, is_base_size, nested_length};
+ghost use Rattle.evp_format.specs.Drafts.{draft_extent, draft_of, may_default, may_count};
 
 use crate::{Base, RecordType};
 use evp_base::{Kind, Name, fits};

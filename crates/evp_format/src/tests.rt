@@ -1,3 +1,5 @@
+mod many_fields;
+
 use super::*;
 use std::test::Fail;
 

@@ -1,11 +1,14 @@
-//! Type texts: a word, and behind it nothing, `[N]` or `[name]`. There is one spelling of each type.
+//! Type texts: a word, and behind it nothing, `[N]` or `[name]`. There is one spelling of each
+//! type.
 
-ghost use Rattle.std.specs.Prelude.{◌≡◌, ◌≢◌, ◌↔◌, slice_index, ◌<◌, ◌≤◌, ◌^◌, ℕ, ◌&&◌, length, not, IsTrue, SomeIff};
+ghost use Rattle.std.specs.Prelude.{◌≡◌, ◌≢◌, ◌↔◌, slice_index, ◌<◌, ◌≤◌, ◌^◌, length, IsTrue};
+ghost use Rattle.std.specs.Prelude.{SomeIff};
 ghost use Rattle.std.specs.Str.Parse.{IsNumeral, digits_value};
-ghost use Rattle.evp_base.specs.Name.{is_name};
 ghost use Rattle.evp_format.specs.Bytes.{bytes_equal};
-ghost use Rattle.evp_format.specs.WellLaid.{is_reserved};
-ghost use Rattle.evp_format.specs.TypeText.{word_part, bracket_part, type_word_of, word_of, fixed_of, inside_of, shape_of, type_named, base_of, type_text_of};
+ghost use Rattle.evp_format.specs.WellLaid.{is_reserved, is_type_name};
+ghost use Rattle.evp_format.specs.TypeText.{word_part, bracket_part, type_word_of, word_of};
+ghost use Rattle.evp_format.specs.TypeText.{fixed_of, inside_of, shape_of, type_named, base_of};
+ghost use Rattle.evp_format.specs.TypeText.{type_text_of};
 
 use crate::{Base, DraftShape, LayoutFault, RecordType};
 use evp_base::{Kind, Name};
@@ -95,14 +98,11 @@ fn word_of(text: &[u8]) -> Option<Word>
     }
 }
 
-// A record type's name: `unsigned` is none.
+// A record type's name, as a word.
 fn type_word_of(text: &[u8]) -> Option<Word>
     ensures { result ≡ type_word_of text.now }
 {
-    if is_text(text, b"unsigned") {
-        return None;
-    }
-    let name = Name::read(text)?;
+    let name = type_name_of(text)?;
     Some(Word::Named(name))
 }
 
@@ -161,7 +161,8 @@ fn begins_number(text: &[u8]) -> bool
 // The number that a text writes.
 fn number_of(text: &[u8]) -> Option<u32>
     requires { slice_index text.now 0 ≢ 43 }
-    ensures { SomeIff result (IsNumeral 10 text.now × (digits_value 10 text.now < 2 ^ 32)) (digits_value 10 text.now) }
+    ensures { SomeIff result (IsNumeral 10 text.now × (digits_value 10 text.now < 2 ^ 32))
+        (digits_value 10 text.now) }
 {
     match std::str::from_utf8(text) {
         Ok(digits) => digits.parse().ok(),
@@ -205,7 +206,7 @@ fn type_named(types: &[RecordType], name: Name) -> Option<u16>
 
 /// A record type's name, if the text is one: no reserved word.
 pub(crate) fn type_name_of(text: &[u8]) -> Option<Name>
-    ensures { SomeIff result (IsTrue (is_name text.now && not (is_reserved text.now))) text.now }
+    ensures { SomeIff result (IsTrue (is_type_name text.now)) text.now }
 {
     if is_reserved(text) {
         return None;

@@ -1,10 +1,12 @@
 //! The record types of a format so far: a format's types are stated one behind another.
 
-ghost use Rattle.std.specs.Prelude.{◌≡◌, ◌+◌, ◌^◌, ◌<◌, ◌≤◌, ◌⊎◌, ◌++◌, ◌∷◌, [], length, map, IfOk, IfErr, IsTrue, All};
+ghost use Rattle.std.specs.Prelude.{◌≡◌, ◌+◌, ◌^◌, ◌<◌, ◌≤◌, ◌⊎◌, ◌++◌, ◌∷◌, [], length, map, IfOk};
+ghost use Rattle.std.specs.Prelude.{IfErr, IsTrue, All};
 ghost use Rattle.evp_format.specs.declared.layout_fault.LayoutFault.TheVariants.{Memory};
 ghost use Rattle.evp_format.specs.Drafts.{is_base_size, nested_length};
 ghost use Rattle.evp_format.specs.Layout.{layout_with};
-ghost use Rattle.evp_format.specs.Parts.{new_type_name, new_field_count, new_field_name, allowed_size, allowed_default, ended_type};
+ghost use Rattle.evp_format.specs.Parts.{new_type_name, new_field_count, new_field_name};
+ghost use Rattle.evp_format.specs.Parts.{allowed_size, allowed_default, ended_type};
 ghost use Rattle.evp_format.specs.SoFar.{so_far, AreLaid, MayFollow};
 ghost use Rattle.evp_format.specs.Steps.{Gives};
 ghost use Rattle.evp_format.specs.Tree.{trees};
@@ -128,7 +130,8 @@ impl TypesSoFar {
     #[tactic(auto, unfolding(crate::specs::Parts::new_field_count))]
     pub fn field_count(&self, count: u32) -> Result<u32, LayoutFault>
         ensures value { result ≡ new_field_count (all_fields self.now.types) count }
-        ensures limit { IfOk result (λ allowed. (1 ≤ allowed) × (allowed ≤ 1024) × (all_fields self.now.types + allowed ≤ 4096)) }
+        ensures limit { IfOk result (λ allowed. (1 ≤ allowed) × (allowed ≤ 1024)
+            × (all_fields self.now.types + allowed ≤ 4096)) }
         ensures same { IfOk result (λ allowed. allowed ≡ count) }
     {
         if count < 1 || 1024 < count {
@@ -173,7 +176,8 @@ impl TypesSoFar {
     #[tactic(auto, unfolding(crate::specs::Parts::allowed_size))]
     pub fn size(&self, field: u16, base: Base, size: u32) -> Result<u32, LayoutFault>
         ensures value { result ≡ allowed_size self.now.pointer self.now.types field base size }
-        ensures allowed { IfOk result (λ allowed. IsTrue (is_base_size self.now.pointer self.now.types base allowed)) }
+        ensures allowed { IfOk result (λ allowed. IsTrue
+            (is_base_size self.now.pointer self.now.types base allowed)) }
     {
         if is_base_size(self.pointer(), self.types(), base, size) {
             Ok(size)
@@ -191,7 +195,8 @@ impl TypesSoFar {
         field: &DraftField,
         fallback: i128,
     ) -> Result<i128, LayoutFault>
-        requires { IsTrue (is_base_size self.now.pointer self.now.types field.now.base field.now.size) }
+        requires { IsTrue (is_base_size self.now.pointer self.now.types field.now.base
+            field.now.size) }
         ensures { result ≡ allowed_default (length self.now.types) number field.now fallback }
     {
         if may_default(field, fallback, self.pointer(), self.types()) {
@@ -234,7 +239,8 @@ impl TypesSoFar {
     pub fn push(&mut self, record_type: RecordType) -> Result<(), LayoutFault>
         requires room { length self.old.types < 64 }
         requires follows { MayFollow self.old.pointer self.old.types record_type }
-        ensures pushed { IfOk result (λ _. self.new ≡ so_far self.old.pointer (self.old.types ++ record_type ∷ [])) }
+        ensures pushed { IfOk result (λ _. self.new
+            ≡ so_far self.old.pointer (self.old.types ++ record_type ∷ [])) }
         ensures kept { IfErr result (λ fault. (fault ≡ Memory) × (self.new ≡ self.old)) }
         ensures laid { AreLaid self.new.pointer self.new.types }
     {

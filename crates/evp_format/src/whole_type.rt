@@ -1,7 +1,12 @@
 //! What is tested where a record type ends: its counts, their defaults, the nesting, the overlaps.
 
-ghost use Rattle.std.specs.Prelude.{◌≡◌, ◌+◌, ◌*◌, ◌-◌, ◌^◌, ◌<◌, ◌≤◌, ◌≢◌, ℕ, [], List, Option, length, IfOk, IfSome, IsTrue, map, All};
-ghost use Rattle.evp_format.specs.Drafts.{shape_in, field_with, counted_fields, count_named, is_count_named, is_count, is_counted_by, is_defaulted_count, count_with_default, are_apart, overlap_with, first_overlap, without_count_default, within_nesting, without_overlap};
+ghost use Rattle.std.specs.Prelude.{◌≡◌, ◌+◌, ◌*◌, ◌-◌, ◌^◌, ◌<◌, ◌≤◌, ◌≢◌, ℕ, [], List, Option};
+ghost use Rattle.std.specs.Prelude.{length, IfOk, IfSome, IsTrue, map, All};
+ghost use Rattle.evp_format.specs.Drafts.{shape_in, field_with, counted_fields, count_named};
+ghost use Rattle.evp_format.specs.Drafts.{is_count_named, is_count, is_counted_by};
+ghost use Rattle.evp_format.specs.Drafts.{is_defaulted_count, count_with_default, are_apart};
+ghost use Rattle.evp_format.specs.Drafts.{overlap_with, first_overlap, without_count_default};
+ghost use Rattle.evp_format.specs.Drafts.{within_nesting, without_overlap};
 ghost use Rattle.evp_format.specs.Steps.{Gives, Says};
 ghost use Rattle.evp_format.specs.Tree.{Tree, trees, tree, branches_of, part_of};
 ghost use Rattle.evp_format.specs.WellLaid.{depth, part_depth, extent};
@@ -18,7 +23,8 @@ pub(crate) fn counted_fields(
     drafts: &[DraftField],
 ) -> Result<Vec<Field>, LayoutFault>
     requires { length drafts.now ≤ 1024 }
-    ensures value { Gives (λ fields. fields.items) result (counted_fields type_number 0 drafts.now drafts.now) }
+    ensures value { Gives (λ fields. fields.items) result
+        (counted_fields type_number 0 drafts.now drafts.now) }
     ensures number { IfOk result (λ fields. length fields.items ≡ length drafts.now) }
 {
     let mut fields = Vec::with_capacity(alloc, drafts.len())?;
@@ -123,7 +129,8 @@ fn is_counted_by(shape: Shape, number: u16) -> bool
 /// How deep a type of these fields nests, where the earlier types nest so deep.
 pub(crate) fn depth_behind(fields: &[Field], depths: &[u8]) -> u8
     requires { All (λ depth. depth ≤ 16) depths.now }
-    ensures value { (trees : List Tree) (room : ℕ) → depths.now ≡ map depth trees → result ≡ depth (tree room (branches_of trees fields.now)) }
+    ensures value { (trees : List Tree) (room : ℕ) → depths.now ≡ map depth trees → result
+        ≡ depth (tree room (branches_of trees fields.now)) }
     ensures bound { result ≤ 17 }
 {
     let mut deepest = 0;
@@ -139,7 +146,8 @@ pub(crate) fn depth_behind(fields: &[Field], depths: &[u8]) -> u8
 // How deep a base nests.
 fn nested_depth(base: Base, depths: &[u8]) -> u8
     requires { All (λ depth. depth ≤ 16) depths.now }
-    ensures value { (trees : List Tree) → depths.now ≡ map depth trees → result ≡ part_depth (part_of trees base) }
+    ensures value { (trees : List Tree) → depths.now ≡ map depth trees → result
+        ≡ part_depth (part_of trees base) }
     ensures bound { result ≤ 16 }
 {
     match base {

@@ -3,6 +3,7 @@ pub mod Declared
 pub mod DeclaredAgain
 pub mod Ends
 pub mod ExactLayouts
+mod FaultExamples
 pub mod Formats
 pub mod LaidOut
 pub mod LayoutExamples

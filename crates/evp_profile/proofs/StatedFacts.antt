@@ -48,6 +48,9 @@ pub record IsStated (pointer : ℕ) (earlier : List RecordType) (before : List D
   pub size_is : field.size ≡ size_meant pointer earlier field.base declared.size
   pub fallback_is : field.fallback ≡ declared.fallback
 
+states_start : (name : List ℕ) (said : Base × DraftShape) (size : ℕ) (fallback : ℤ) → (draft_of name said size 0 fallback).offset ≡ 0
+states_start name said size fallback = refl
+
 pub stated_field_facts : (pointer : ℕ) (earlier : List RecordType) (before : List DraftField) (declared : DeclaredField) (field : DraftField) → stated_field pointer earlier before declared ≡ Ok field
     → IsStated pointer earlier before declared field
 unfolding stated_field
@@ -75,7 +78,7 @@ stated_field_facts pointer earlier before declared field e =
       shaped = spelled.1;
       sized = sized.0;
       defaulted = defaulted.0;
-      at_start = refl;
+      at_start = states_start name.0 said.0 size.0 fallback.0;
       name_is = sym named.2;
       text_is = sym spelled.2;
       size_is = sym sized.1;

@@ -3,7 +3,8 @@
 ghost use Rattle.std.specs.Prelude.{◌≡◌, ◌+◌, ◌-◌, ◌*◌, ◌^◌, ◌<◌, ◌≤◌, [], length, IfOk, IsTrue};
 ghost use Rattle.evp_format.specs.Drafts.{is_base_size};
 ghost use Rattle.evp_format.specs.Steps.{Gives};
-ghost use Rattle.evp_format.specs.Reading.{field_name_at, field_type_at, field_size_at, field_offset_at, default_at, field_at, fields_at};
+ghost use Rattle.evp_format.specs.Reading.{field_name_at, field_type_at, field_size_at};
+ghost use Rattle.evp_format.specs.Reading.{field_offset_at, default_at, field_at, fields_at};
 
 use super::parts::{number_at, signed_at, text_at};
 use crate::draft::{draft_extent, draft_of};
@@ -32,7 +33,9 @@ pub(crate) fn fields_at(
 ) -> Result<(Vec<DraftField>, u32), LayoutFault>
     requires near { at < 2 ^ 30 }
     requires few { count ≤ 1024 }
-    ensures value { let types = head.now.types.now in Gives (λ read. (read.0.items, read.1)) result (fields_at count head.now.stated types.pointer types.types head.now.room [] bytes.now at) }
+    ensures value { let types = head.now.types.now in
+        Gives (λ read. (read.0.items, read.1)) result
+        (fields_at count head.now.stated types.pointer types.types head.now.room [] bytes.now at) }
     ensures behind { IfOk result (λ read. read.1 ≤ at + 536 * count) }
     ensures number { IfOk result (λ read. length read.0.items ≡ count) }
 {
@@ -56,7 +59,9 @@ fn field_at(
 ) -> Result<(DraftField, u32), LayoutFault>
     requires near { at < 2 ^ 30 + 2 ^ 20 }
     requires few { length before.now < 1024 }
-    ensures value { let types = head.now.types.now in result ≡ field_at head.now.stated types.pointer types.types head.now.room before.now bytes.now at }
+    ensures value { let types = head.now.types.now in
+        result ≡ field_at head.now.stated types.pointer types.types head.now.room before.now
+        bytes.now at }
     ensures behind { IfOk result (λ read. read.1 ≤ at + 536) }
 {
     let number = before.len() as u16;
@@ -116,7 +121,8 @@ fn field_size_at(
 ) -> Result<(u32, u32), LayoutFault>
     requires near { at < 2 ^ 31 }
     ensures value { result ≡ field_size_at types.now.pointer types.now.types field base bytes.now at }
-    ensures allowed { IfOk result (λ read. IsTrue (is_base_size types.now.pointer types.now.types base read.0)) }
+    ensures allowed { IfOk result (λ read. IsTrue
+        (is_base_size types.now.pointer types.now.types base read.0)) }
     ensures behind { IfOk result (λ read. read.1 ≡ at + 4) }
 {
     let (stated, behind) = number_at(bytes, at, 4)?;
@@ -135,7 +141,8 @@ fn field_offset_at(
 ) -> Result<(u32, u32), LayoutFault>
     requires near { at < 2 ^ 31 }
     requires small { taken < 2 ^ 64 - 2 ^ 32 }
-    ensures value { result ≡ field_offset_at (length head.now.types.now.types) field taken head.now.room bytes.now at }
+    ensures value { result ≡ field_offset_at (length head.now.types.now.types) field taken
+        head.now.room bytes.now at }
     ensures behind { IfOk result (λ read. read.1 ≡ at + 4) }
 {
     let (offset, behind) = number_at(bytes, at, 4)?;
@@ -156,8 +163,10 @@ fn default_at(
     field: &DraftField,
 ) -> Result<(i128, u32), LayoutFault>
     requires near { at < 2 ^ 31 }
-    requires sized { IsTrue (is_base_size head.now.types.now.pointer head.now.types.now.types field.now.base field.now.size) }
-    ensures value { result ≡ default_at head.now.stated (length head.now.types.now.types) field.now number bytes.now at }
+    requires sized { IsTrue (is_base_size head.now.types.now.pointer head.now.types.now.types
+        field.now.base field.now.size) }
+    ensures value { result ≡ default_at head.now.stated (length head.now.types.now.types) field.now
+        number bytes.now at }
     ensures behind { IfOk result (λ read. read.1 ≤ at + 16) }
 {
     if !head.stated {

@@ -3,7 +3,8 @@
 ghost use Rattle.std.specs.Prelude.{◌≡◌, ◌+◌, ◌^◌, ◌<◌, ◌≤◌, ◌⊎◌, List, ℕ, Ok, IfOk, IfErr, Some};
 ghost use Rattle.evp_format.specs.Describing.{describe, states_default, all_default_zero};
 ghost use Rattle.evp_format.specs.Layout.{Layout};
-ghost use Rattle.evp_format.specs.Reading.{magic_at, order_at, pointer_at, type_count_at, with_default, layout_at, layout_of, layout_fault};
+ghost use Rattle.evp_format.specs.Reading.{magic_at, order_at, pointer_at, type_count_at};
+ghost use Rattle.evp_format.specs.Reading.{with_default, layout_at, layout_of, layout_fault};
 ghost use Rattle.evp_format.specs.Steps.{Gives};
 ghost use Rattle.evp_format.specs.WellLaid.{IsWellLaid};
 
@@ -21,7 +22,8 @@ pub fn read_description(alloc: Global, bytes: &[u8]) -> Result<Format, LayoutFau
     // What is read is well laid, and the bytes are its description.
     ensures found { IfOk result (λ format. IsWellLaid format × (bytes.now ≡ describe format)) }
     // A well laid format's description is read as that format, unless there is no memory.
-    ensures only { (layout : Layout) → IsWellLaid layout → bytes.now ≡ describe layout → Gives (λ format. format) result (Ok layout) }
+    ensures only { (layout : Layout) → IsWellLaid layout → bytes.now ≡ describe layout
+        → Gives (λ format. format) result (Ok layout) }
     // Which fault it is.
     ensures exact { Gives (λ format. format) result (layout_of bytes.now) }
 {

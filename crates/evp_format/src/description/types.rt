@@ -1,7 +1,8 @@
 //! The record types of a description.
 
 ghost use Rattle.std.specs.Prelude.{◌≡◌, ◌+◌, ◌*◌, ◌^◌, ◌<◌, ◌≤◌, ◌⊎◌, [], length, IfOk};
-ghost use Rattle.evp_format.specs.Reading.{type_name_at, type_length_at, field_count_at, whole_type, type_at, types_at};
+ghost use Rattle.evp_format.specs.Reading.{type_name_at, type_length_at, field_count_at};
+ghost use Rattle.evp_format.specs.Reading.{whole_type, type_at, types_at};
 ghost use Rattle.evp_format.specs.Steps.{Gives};
 ghost use Rattle.evp_format.specs.WellLaid.{all_fields};
 
@@ -24,7 +25,8 @@ pub(crate) fn types_at(
     requires near { at ≤ 8 }
     requires few { count ≤ 64 }
     requires allowed { (pointer ≡ 4) ⊎ (pointer ≡ 8) }
-    ensures value { Gives (λ read. (read.0.types, read.1)) result (types_at count stated pointer [] bytes.now at) }
+    ensures value { Gives (λ read. (read.0.types, read.1)) result
+        (types_at count stated pointer [] bytes.now at) }
     ensures pointer { IfOk result (λ read. read.0.pointer ≡ pointer) }
     ensures number { IfOk result (λ read. length read.0.types ≡ count) }
     ensures behind { IfOk result (λ read. read.1 < 2 ^ 24) }
@@ -49,7 +51,8 @@ fn type_at(
     types: &TypesSoFar,
 ) -> Result<(RecordType, u32), LayoutFault>
     requires near { at < 2 ^ 24 }
-    ensures value { Gives (λ read. read) result (type_at stated types.now.pointer types.now.types bytes.now at) }
+    ensures value { Gives (λ read. read) result
+        (type_at stated types.now.pointer types.now.types bytes.now at) }
     ensures behind { IfOk result (λ read. read.1 ≤ at + 262 + 536 * length read.0.fields) }
     ensures fields { IfOk result (λ read. all_fields types.now.types + length read.0.fields ≤ 4096) }
 {
@@ -99,7 +102,8 @@ fn field_count_at(bytes: &[u8], at: u32, types: &TypesSoFar) -> Result<(u32, u32
     requires { at < 2 ^ 31 }
     ensures value { result ≡ field_count_at (all_fields types.now.types) bytes.now at }
     ensures behind { IfOk result (λ read. read.1 ≡ at + 2) }
-    ensures limit { IfOk result (λ read. (read.0 ≤ 1024) × (all_fields types.now.types + read.0 ≤ 4096)) }
+    ensures limit { IfOk result (λ read. (read.0 ≤ 1024)
+        × (all_fields types.now.types + read.0 ≤ 4096)) }
 {
     let (stated, behind) = number_at(bytes, at, 2)?;
     let count = types.field_count(stated)?;
@@ -116,7 +120,8 @@ fn whole_type(
     drafts: &[DraftField],
 ) -> Result<RecordType, LayoutFault>
     requires { length drafts.now ≤ 1024 }
-    ensures value { Gives (λ made. made) result (whole_type types.now.pointer types.now.types name room drafts.now) }
+    ensures value { Gives (λ made. made) result
+        (whole_type types.now.pointer types.now.types name room drafts.now) }
     ensures number { IfOk result (λ made. length made.fields ≡ length drafts.now) }
 {
     let record_type = types.end_fields(alloc, name, room, drafts)?;

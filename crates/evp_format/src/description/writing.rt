@@ -1,8 +1,14 @@
 //! Writing a description.
 
-ghost use Rattle.std.specs.Prelude.{◌≡◌, ◌+◌, ◌*◌, ◌^◌, ◌<◌, ◌≤◌, ◌++◌, [], if◌then◌else◌, length, IfOk, OnOk, IsTrue, All, codes};
+ghost use Rattle.std.specs.Prelude.{◌≡◌, ◌+◌, ◌*◌, ◌^◌, ◌<◌, ◌≤◌, ◌++◌, [], if◌then◌else◌, length};
+ghost use Rattle.std.specs.Prelude.{IfOk, OnOk, IsTrue, All, codes};
 ghost use Rattle.evp_base.specs.Numbers.{is_width};
-ghost use Rattle.evp_format.specs.Describing.{describe, stated_number, described_number, described_text, described_field, described_fields, described_type, described_types, base_word, type_name, field_name, shape_text, type_text, kind_word, magic, order_number, types_state_default, all_default_zero};
+ghost use Rattle.evp_format.specs.Describing.{describe, stated_number, described_number};
+ghost use Rattle.evp_format.specs.Describing.{described_text, described_field, described_fields};
+ghost use Rattle.evp_format.specs.Describing.{described_type, described_types, base_word};
+ghost use Rattle.evp_format.specs.Describing.{type_name, field_name, shape_text, type_text};
+ghost use Rattle.evp_format.specs.Describing.{kind_word, magic, order_number, types_state_default};
+ghost use Rattle.evp_format.specs.Describing.{all_default_zero};
 ghost use Rattle.evp_format.specs.WellLaid.{IsWellLaid};
 
 use crate::{Base, Field, Format, RecordType, Shape};
@@ -11,7 +17,8 @@ use evp_base::{Kind, Memory, Order, put_number};
 use std::alloc::Global;
 
 /// The one description of the format: the magic `NDF1`, or `NDF2` where some default isn't 0, then
-/// the byte order, the pointer size, and each type with its fields, numbers unsigned and big endian.
+/// the byte order, the pointer size, and each type with its fields, numbers unsigned and big
+/// endian.
 pub fn write_description(alloc: Global, format: &Format) -> Result<Vec<u8>, Memory>
     ensures { IfOk result (λ bytes. bytes.items ≡ describe format.now) }
 {
@@ -34,7 +41,8 @@ fn put_types(
     types: &[RecordType],
 ) -> Result<(), Memory>
     requires { All (λ type. length type.fields < 2 ^ 16) types.now }
-    ensures { OnOk result (out.new.items ≡ out.old.items ++ described_types stated types.now types.now) }
+    ensures { OnOk result (out.new.items ≡ out.old.items
+        ++ described_types stated types.now types.now) }
 {
     for record_type in types {
         put_type(out, alloc, stated, types, record_type)?;
@@ -50,7 +58,8 @@ fn put_type(
     record_type: &RecordType,
 ) -> Result<(), Memory>
     requires { length record_type.now.fields < 2 ^ 16 }
-    ensures { OnOk result (out.new.items ≡ out.old.items ++ described_type stated types.now record_type.now) }
+    ensures { OnOk result (out.new.items ≡ out.old.items
+        ++ described_type stated types.now record_type.now) }
 {
     let fields = record_type.fields.as_slice();
     put_text(out, record_type.name.as_bytes())?;
@@ -67,7 +76,8 @@ fn put_fields(
     types: &[RecordType],
     fields: &[Field],
 ) -> Result<(), Memory>
-    ensures { OnOk result (out.new.items ≡ out.old.items ++ described_fields stated types.now fields.now fields.now) }
+    ensures { OnOk result (out.new.items ≡ out.old.items
+        ++ described_fields stated types.now fields.now fields.now) }
 {
     for field in fields {
         put_field(out, alloc, stated, types, fields, field)?;
@@ -83,7 +93,8 @@ fn put_field(
     fields: &[Field],
     field: &Field,
 ) -> Result<(), Memory>
-    ensures { OnOk result (out.new.items ≡ out.old.items ++ described_field stated types.now fields.now field.now) }
+    ensures { OnOk result (out.new.items ≡ out.old.items
+        ++ described_field stated types.now fields.now field.now) }
 {
     let text = type_text(alloc, types, fields, field)?;
     put_text(out, field.name.as_bytes())?;

@@ -10,7 +10,8 @@ returns-then-not-begins_number c =
 
 pub returns-in_err-count : goal.returns-in_err-count
 returns-in_err-count c =
-    c.from_residual.ensures ∙ sym (fixed_no c.args.text.now (λ numeral first least most. c.in_err-count.ensures (numeral, omega (arith, most))))
+    c.from_residual.ensures ∙ sym (fixed_no c.args.text.now
+    (λ numeral first least most. c.in_err-count.ensures (numeral, omega (arith, most))))
 
 pub returns-then-is_fixed_count : goal.returns-then-is_fixed_count
 returns-then-is_fixed_count c =

@@ -12,5 +12,6 @@ loop-number-preserved c =
     let k = c.loop-number.number in
     let p = λ (type : RecordType). bytes_equal type.name c.args.name in
     let other : bytes_equal c.index-types-number.result.name c.args.name ≡ false = sym c.if-eq.ensures.value in
-    goes_on (position_from p) types k c.index-types-number.result (type_named types c.args.name) c.loop-number-test.true c.index-types-number.is
+    goes_on (position_from p) types k c.index-types-number.result (type_named types c.args.name) c.loop-number-test.true
+    c.index-types-number.is
     (ap (λ b. cond b (Some k) (position_from p (k + 1) (drop (k + 1) types))) other) c.loop-number.invariant

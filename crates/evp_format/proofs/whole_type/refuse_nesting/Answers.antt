@@ -18,7 +18,8 @@ returns-then-depth-le16 c =
     let type = c.args.record_type.now in
     let earlier = trees c.args.earlier.now in
     let deep : c.depth_behind-depth.result ≡ depth_behind c.args.earlier.now type =
-    c.depth_behind-depth.ensures.value earlier type.length c.requires.nested ∙ ap (λ (fields : List Field). depth (tree type.length (branches_of earlier fields))) c.as_slice.ensures in
+    c.depth_behind-depth.ensures.value earlier type.length c.requires.nested
+    ∙ ap (λ (fields : List Field). depth (tree type.length (branches_of earlier fields))) c.as_slice.ensures in
     let shallow = c.if-depth-le16.true in
     let fault : Result RecordType LayoutFault = Err (Limit Nesting (depth_behind c.args.earlier.now type)) in
     ap (λ (b : Bool). cond b (Ok type) fault) (le-leb (depth_behind c.args.earlier.now type) 16 (omega (arith, deep, shallow)))
@@ -29,8 +30,10 @@ returns-else-depth-le16 c =
     let type = c.args.record_type.now in
     let earlier = trees c.args.earlier.now in
     let deep : c.depth_behind-depth.result ≡ depth_behind c.args.earlier.now type =
-    c.depth_behind-depth.ensures.value earlier type.length c.requires.nested ∙ ap (λ (fields : List Field). depth (tree type.length (branches_of earlier fields))) c.as_slice.ensures in
+    c.depth_behind-depth.ensures.value earlier type.length c.requires.nested
+    ∙ ap (λ (fields : List Field). depth (tree type.length (branches_of earlier fields))) c.as_slice.ensures in
     let too_deep = c.if-depth-le16.false in
     let over : nat_le c.depth_behind-depth.result 16 ≡ false = grind (arith, nat_tests, too_deep) in
     let answer : ℕ → Result RecordType LayoutFault = λ n. Err (Limit Nesting n) in
-    ap (λ (b : Bool). cond b (Ok type) (answer (depth_behind c.args.earlier.now type))) (ap (λ (n : ℕ). nat_le n 16) (sym deep) ∙ over) ∙ ap answer (sym deep ∙ sym c.from.ensures)
+    ap (λ (b : Bool). cond b (Ok type) (answer (depth_behind c.args.earlier.now type))) (ap (λ (n : ℕ). nat_le n 16) (sym deep) ∙ over)
+    ∙ ap answer (sym deep ∙ sym c.from.ensures)

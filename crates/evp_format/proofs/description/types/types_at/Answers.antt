@@ -11,13 +11,16 @@ pub returns-in_err-record_type-clause-value : goal.returns-in_err-record_type-cl
 returns-in_err-record_type-clause-value c =
     let types = c.loop.types.types in
     let p = err_from_is_err_and c.from_residual.result c.from_residual.ensures.1 in
-    rw (p.1, p.2) (λ memory. types_stop c.args.count c.loop.counter c.args.stated c.args.pointer types c.args.bytes.now c.loop.next c.in_err-record_type.field-0.0
+    rw (p.1, p.2) (λ memory. types_stop c.args.count c.loop.counter c.args.stated c.args.pointer types c.args.bytes.now c.loop.next
+    c.in_err-record_type.field-0.0
     (types_at c.args.count c.args.stated c.args.pointer [] c.args.bytes.now c.args.at) c.loop-test.true
-    (ap (λ (pointer : ℕ). type_at c.args.stated pointer types c.args.bytes.now c.loop.next) (sym c.loop.invariant.pointer) ∙ c.in_err-record_type.ensures.value memory) c.loop.invariant.rest)
+    (ap (λ (pointer : ℕ). type_at c.args.stated pointer types c.args.bytes.now c.loop.next) (sym c.loop.invariant.pointer)
+    ∙ c.in_err-record_type.ensures.value memory) c.loop.invariant.rest)
 
 pub push-requires-clause-follows : goal.push-requires-clause-follows
 push-requires-clause-follows c =
-    type_facts c.args.stated c.loop.types.pointer c.loop.types.types c.args.bytes.now c.loop.next (c.in_ok-record_type.record_type, c.in_ok-record_type.behind) c.in_ok-record_type.ensures.value
+    type_facts c.args.stated c.loop.types.pointer c.loop.types.types c.args.bytes.now c.loop.next
+    (c.in_ok-record_type.record_type, c.in_ok-record_type.behind) c.in_ok-record_type.ensures.value
 
 pub loop-preserved : goal.loop-preserved
 loop-preserved c =
@@ -26,7 +29,8 @@ loop-preserved c =
     let type = c.in_ok-record_type.record_type in
     let behind = c.in_ok-record_type.behind in
     let read : type_at c.args.stated c.args.pointer types c.args.bytes.now c.loop.next ≡ Ok (type, behind) =
-    ap (λ (pointer : ℕ). type_at c.args.stated pointer types c.args.bytes.now c.loop.next) (sym inv.pointer) ∙ c.in_ok-record_type.ensures.value in
+    ap (λ (pointer : ℕ). type_at c.args.stated pointer types c.args.bytes.now c.loop.next) (sym inv.pointer)
+    ∙ c.in_ok-record_type.ensures.value in
     let pushed = c.in_ok-push.ensures.pushed in
     let types_are = ap (λ (s : SoFar). s.types) pushed in
     let long = ap length types_are in
@@ -38,7 +42,8 @@ loop-preserved c =
     let end = c.in_ok-record_type.ensures.behind in
     let near = inv.near in
     record {
-      rest = rw types_are (types_go_on c.args.count c.loop.counter c.args.stated c.args.pointer types c.args.bytes.now c.loop.next type behind
+      rest = rw types_are (types_go_on c.args.count c.loop.counter c.args.stated c.args.pointer types c.args.bytes.now c.loop.next type
+          behind
           (types_at c.args.count c.args.stated c.args.pointer [] c.args.bytes.now c.args.at) c.loop-test.true read inv.rest);
       pointer = ap (λ (s : SoFar). s.pointer) pushed ∙ inv.pointer;
       number = omega (arith, long, grown, number);

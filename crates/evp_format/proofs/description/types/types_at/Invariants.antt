@@ -5,7 +5,8 @@ use Rattle.evp_format.proofs.description.types.types_at.Given as goal
 
 abbrev pub invariant-loop : goal.invariant-loop
 invariant-loop l = record {
-  rest : types_at (l.count - l.counter) l.stated l.pointer l.types.types l.bytes l.next ≡ types_at l.count l.stated l.pointer [] l.bytes l.at;
+  rest : types_at (l.count - l.counter) l.stated l.pointer l.types.types l.bytes l.next
+      ≡ types_at l.count l.stated l.pointer [] l.bytes l.at;
   pointer : l.types.pointer ≡ l.pointer;
   number : length l.types.types ≡ l.counter;
   few : all_fields l.types.types ≤ 4096;

@@ -6,7 +6,8 @@ use Rattle.evp_format.proofs.description.writing.field_name.Goals as goal
 pub returns-in-Some-clause-value : goal.returns-in-Some-clause-value
 returns-in-Some-clause-value c =
     let h = c.in-Some.ensures.lookup in
-    c.as_bytes.ensures.value ∙ field_name-within c.args.fields.now c.from.result c.in-Some.field.now h.3.0 h.1 ∙ ap (field_name c.args.fields.now) c.from.ensures
+    c.as_bytes.ensures.value ∙ field_name-within c.args.fields.now c.from.result c.in-Some.field.now h.3.0 h.1
+    ∙ ap (field_name c.args.fields.now) c.from.ensures
 
 pub returns-in-None-clause-value : goal.returns-in-None-clause-value
 returns-in-None-clause-value c =

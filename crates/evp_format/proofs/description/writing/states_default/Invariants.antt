@@ -6,4 +6,5 @@ use Rattle.evp_format.proofs.description.writing.states_default.Given as goal
 
 abbrev pub invariant-loop-record_type : goal.invariant-loop-record_type
 invariant-loop-record_type l =
-    list_all (λ (type : RecordType). all_default_zero type.fields) (drop l.record_type-index l.types) ≡ list_all (λ (type : RecordType). all_default_zero type.fields) l.types
+    list_all (λ (type : RecordType). all_default_zero type.fields) (drop l.record_type-index l.types)
+    ≡ list_all (λ (type : RecordType). all_default_zero type.fields) l.types

@@ -8,9 +8,11 @@ use Rattle.byteorder.proofs.Bytes.{pow256}
 use Rattle.evp_base.specs.declared.order.Order.{Order}
 use Rattle.evp_base.specs.declared.kind.Kind.{Kind}
 use Rattle.evp_base.specs.declared.kind.Kind.TheVariants.{Int, Unsigned, Char, Boolean, Enumeration}
-use Rattle.evp_base.specs.Numbers.{number, digits, residue, magnitude, truth, low_first, low_digits, twos_complement, is_width, is_size_of, InRange}
+use Rattle.evp_base.specs.Numbers.{number, digits, residue, magnitude, truth, low_first, low_digits, twos_complement, is_width, is_size_of}
+use Rattle.evp_base.specs.Numbers.{InRange}
 use Rattle.evp_base.proofs.Complement.{width, residue-lt, residue-pos, signed-residue, residue-signed, signed-range}
-use Rattle.evp_base.proofs.Digits.{AreBytes, length-low_digits, AreBytes-low_digits, weighed-low_digits, low_digits-weighed, length-low_first, AreBytes-low_first, low_first-low_first, magnitude-lt}
+use Rattle.evp_base.proofs.Digits.{AreBytes, length-low_digits, AreBytes-low_digits, weighed-low_digits, low_digits-weighed}
+use Rattle.evp_base.proofs.Digits.{length-low_first, AreBytes-low_first, low_first-low_first, magnitude-lt}
 
 -- ---- the digits of a number
 
@@ -90,7 +92,8 @@ signed_digits_back order bytes allowed are =
     (residue-signed (2 ^ (8 * length bytes)) (magnitude order bytes) (magnitude_below order bytes are))
 
 -- the digits of the number of some bytes are those bytes, but for a boolean
-pub digits-number : (order : Order) (kind : Kind) (bytes : List ℕ) → kind ≢ Boolean → IsTrue (is_size_of kind (length bytes)) → AreBytes bytes
+pub digits-number : (order : Order) (kind : Kind) (bytes : List ℕ) → kind ≢ Boolean → IsTrue (is_size_of kind (length bytes))
+    → AreBytes bytes
     → digits order (length bytes) (number order kind bytes) ≡ bytes
 digits-number order Int bytes other allowed are = signed_digits_back order bytes allowed are
 digits-number order Enumeration bytes other allowed are = signed_digits_back order bytes allowed are
@@ -104,7 +107,8 @@ signed_in_range : (order : Order) (bytes : List ℕ) → IsTrue (is_width (lengt
     → InRange Int (length bytes) (number order Int bytes)
 signed_in_range order bytes allowed are =
     let wide = width (length bytes) allowed in
-    signed-range (2 ^ (8 * length bytes - 1)) (2 ^ (8 * length bytes)) (magnitude order bytes) (omega (arith, wide.least)) wide.half (magnitude_below order bytes are)
+    signed-range (2 ^ (8 * length bytes - 1)) (2 ^ (8 * length bytes)) (magnitude order bytes) (omega (arith, wide.least)) wide.half
+    (magnitude_below order bytes are)
 
 truth-range : (m : ℕ) → (pos 0 ≤ℤ truth m) × (truth m ≤ℤ pos 1)
 truth-range m = grind (arith, ints, nat_tests)

@@ -25,11 +25,14 @@ is_index (Index index) = true
 -- `==` tells which steps are the same
 pub step_eq-Decides : (step other : Step) → Decides (step_eq step other) (step ≡ other)
 step_eq-Decides (Field name) (Field other) =
-    let same = bytes_decides name other in (λ told. ap Field (same.0 told), λ e. same.1 (ap field_name e))
+    let same = bytes_decides name other in
+    (λ told. ap Field (same.0 told), λ e. same.1 (ap field_name e))
 step_eq-Decides (Index index) (Index other) =
-    let same = unsigned_Decides index other in (λ told. ap Index (same.0 told), λ e. same.1 (ap element_index e))
+    let same = unsigned_Decides index other in
+    (λ told. ap Index (same.0 told), λ e. same.1 (ap element_index e))
 step_eq-Decides (Field name) (Index other) = (λ told. absurd (false≢true told), λ e. ap is_index e)
-step_eq-Decides (Index index) (Field other) = (λ told. absurd (false≢true told), λ e. sym (ap is_index e))
+step_eq-Decides (Index index) (Field other) =
+    (λ told. absurd (false≢true told), λ e. sym (ap is_index e))
 
 pub step_eq-equivalence : IsEquivalence step_eq
 step_eq-equivalence = decided step_eq step_eq-Decides

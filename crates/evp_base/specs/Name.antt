@@ -1,5 +1,6 @@
 -- Names: 1 to 64 bytes, a letter or `_`, then letters, digits or `_`, all ASCII.
-use Rattle.std.specs.Prelude.{◌≡◌, ℕ, ◌-◌, Bool, false, ◌&&◌, ◌||◌, nat_le, nat_eq, List, [], ◌∷◌, ◌++◌, length, take, replicate, IsTrue}
+use Rattle.std.specs.Prelude.{◌≡◌, ℕ, ◌-◌, Bool, false, ◌&&◌, ◌||◌, nat_le, nat_eq, List, [], ◌∷◌}
+use Rattle.std.specs.Prelude.{◌++◌, length, take, replicate, IsTrue}
 use Rattle.std.specs.List.{list_all}
 
 abbrev pub is_letter : ℕ → Bool
@@ -18,7 +19,8 @@ continues_name byte = begins_name byte || is_digit byte
 
 abbrev pub is_name : List ℕ → Bool
 is_name [] = false
-is_name (first ∷ others) = begins_name first && (list_all continues_name others && nat_le (length others) 63)
+is_name (first ∷ others) = begins_name first &&
+    (list_all continues_name others && nat_le (length others) 63)
 
 -- a name in its array: its bytes, then zeros up to 64
 abbrev pub padded : List ℕ → List ℕ

@@ -8,5 +8,6 @@ abbrev pub fields_of : List ℕ → Inside
 fields_of name = record { bytes = padded name; used = length name }
 
 -- the fields are those of the name that they hold
-pub fields_of-take : (kept : Inside) → IsPadded kept.used kept.bytes → fields_of (take kept.used kept.bytes) ≡ kept
+pub fields_of-take : (kept : Inside) → IsPadded kept.used kept.bytes
+    → fields_of (take kept.used kept.bytes) ≡ kept
 fields_of-take kept holds = λ i. record { bytes = holds.padding i; used = holds.counted i }

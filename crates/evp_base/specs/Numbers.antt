@@ -1,6 +1,8 @@
 -- Numbers as the bytes of a record: a sum of weights, and two's complement (C99, section 6.2.6.2).
 -- Each is stated once, from the lowest byte up; the two orders differ by a reversal.
-use Rattle.std.specs.Prelude.{ℕ, zero, suc, ◌+◌, ◌*◌, ◌-◌, ◌/◌, ◌%◌, ◌^◌, ◌≤ℤ◌, ◌-ℤ◌, ℤ, pos, negsuc, Bool, not, ◌&&◌, nat_lt, int_lt, nat_eq, if◌then◌else◌, ◌||◌, List, [], ◌∷◌, length, reverse}
+use Rattle.std.specs.Prelude.{ℕ, zero, suc, ◌+◌, ◌*◌, ◌-◌, ◌/◌, ◌%◌, ◌^◌, ◌≤ℤ◌, ◌-ℤ◌, ℤ, pos}
+use Rattle.std.specs.Prelude.{negsuc, Bool, not, ◌&&◌, nat_lt, int_lt, nat_eq, if◌then◌else◌, ◌||◌}
+use Rattle.std.specs.Prelude.{List, [], ◌∷◌, length, reverse}
 use Rattle.evp_base.specs.declared.order.Order.{Order}
 use Rattle.evp_base.specs.declared.order.Order.TheVariants.{Little, Big}
 use Rattle.evp_base.specs.declared.kind.Kind.{Kind}
@@ -22,7 +24,8 @@ magnitude order bytes = weighed (low_first order bytes)
 
 -- a number of `size` bytes whose top bit is a sign: less 2^(8 size) where that bit is set
 abbrev pub twos_complement : ℕ → ℕ → ℤ
-twos_complement size n = if nat_lt (2 * n) (2 ^ (8 * size)) then pos n else pos n -ℤ pos (2 ^ (8 * size))
+twos_complement size n = if nat_lt (2 * n) (2 ^ (8 * size)) then pos n
+    else pos n -ℤ pos (2 ^ (8 * size))
 
 -- 0 where the sum of the bytes is 0, so where all of them are, else 1
 abbrev pub truth : ℕ → ℤ

@@ -6,7 +6,7 @@ use std::alloc::{AllocError, AllocFailed};
 use std::error::Error;
 use std::fmt;
 
-/// There was no memory for what a call makes.
+/// There was no memory for what a call makes. Its text is `memory`.
 #[derive(Clone, Copy, Debug, PartialEq, Eq)]
 pub struct Memory;
 

@@ -24,7 +24,8 @@ pub fn get_number(bytes: &[u8], order: Order, kind: Kind, size: u32) -> i128
     }
 }
 
-/// Writes the bytes of `n` modulo 2^(8 size). The size is 1, 2, 4 or 8 and the slice's length, and
+/// Writes the bytes of `n` modulo 2^(8 size), so a negative one in two's complement (C99, section
+/// 6.2.6.2). The size is 1, 2, 4 or 8 and the slice's length, and
 /// `n` is from the least signed number of that size to the greatest unsigned one. Takes no memory.
 pub fn put_number(out: &mut [u8], order: Order, size: u32, n: i128)
     requires allowed { IsTrue (is_width size) }

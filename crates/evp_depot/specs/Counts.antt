@@ -23,5 +23,6 @@ abbrev pub Rose : ℕ → ℕ → Type 0
 Rose before after = (before < after) ⊎ (last_count ≤ before)
 
 -- a count that rose after it didn't fall has risen
-pub Rose-after : (before between after : ℕ) → before ≤ between → between ≤ after → Rose between after → Rose before after
+pub Rose-after : (before between after : ℕ) → before ≤ between → between ≤ after
+    → Rose between after → Rose before after
 Rose-after before between after first second rose = grind arith

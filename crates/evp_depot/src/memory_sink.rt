@@ -41,7 +41,8 @@ impl Model for MemorySink {
 }
 
 impl MemorySink {
-    /// An empty sink. It takes the memory for `room` bytes; no later write takes any.
+    /// An empty sink. It takes the memory for `room` bytes, and answers `Memory` where there is none;
+    /// no later write takes any.
     pub fn new(alloc: Global, room: u32, take: u32, failing: Vec<u32>) -> Result<MemorySink, Memory>
         requires { 0 < take }
         ensures { IfOk result (λ sink. sink ≡ record {

@@ -67,8 +67,11 @@ impl From<DepotFault> for Fetch {
     }
 }
 
-/// All bytes under the name, at most `max`. They are read in large pieces, and one byte past `max` is
-/// taken before `TooLong` is answered.
+/// All bytes under the name, at most `max`. They are read in large pieces: of 65,536 bytes first, and
+/// then as much again as there is.
+///
+/// `Absent` where a read answered it, `Failed` where one did, and `TooLong` exactly where `max` + 1
+/// bytes were taken. `Memory` where the next piece found none. What was read is dropped then.
 pub fn read_all<D: Depot>(
     alloc: Global,
     depot: &mut D,

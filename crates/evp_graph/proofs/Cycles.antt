@@ -21,11 +21,13 @@ IsClosed targets [] = ⊥
 IsClosed targets (a ∷ others) = Leads targets a others a
 
 -- from a stone further back the path leads up to what the newest stone has as a target
-pub Leads-turned : (targets : List (List ℕ)) (behind : List ℕ) (first : ℕ) (rest : List ℕ) (b : ℕ) → Linked targets (b ∷ (behind ++ first ∷ rest)) → Leads targets first (reverse behind) b
+pub Leads-turned : (targets : List (List ℕ)) (behind : List ℕ) (first : ℕ) (rest : List ℕ) (b : ℕ)
+    → Linked targets (b ∷ (behind ++ first ∷ rest)) → Leads targets first (reverse behind) b
 Leads-turned targets [] first rest b h = h.0
 Leads-turned targets (x ∷ behind) first rest b h =
     let P : List ℕ → Type 0 = λ l. Leads targets first l b in
-    subst P (sym (reverse-append (x ∷ []) behind)) (Leads-append targets first (reverse behind) x [] b (Leads-turned targets behind first rest x h.1) h.0)
+    subst P (sym (reverse-append (x ∷ []) behind))
+    (Leads-append targets first (reverse behind) x [] b (Leads-turned targets behind first rest x h.1) h.0)
 
 pub IsClosed-swap : (targets : List (List ℕ)) (xs ys : List ℕ) → IsClosed targets (xs ++ ys) → IsClosed targets (ys ++ xs)
 IsClosed-swap targets [] ys h = let P : List ℕ → Type 0 = λ l. IsClosed targets l in subst P (sym (append-nil ys)) h
@@ -36,7 +38,8 @@ differ_both : (x y : ℕ) → x ≢ y → y ≢ x
 differ_both x y h e = h (sym e)
 
 -- the turned stones make a closed path of stones that differ
-pub closed_from_turned : (targets : List (List ℕ)) (back : List ℕ) (first : ℕ) (stones : List ℕ) → Linked targets (first ∷ back) → Ordered ◌≢◌ back → IsTurned back first stones → IsClosed targets stones × Ordered ◌≢◌ stones × (0 < length stones)
+pub closed_from_turned : (targets : List (List ℕ)) (back : List ℕ) (first : ℕ) (stones : List ℕ) → Linked targets (first ∷ back)
+    → Ordered ◌≢◌ back → IsTurned back first stones → IsClosed targets stones × Ordered ◌≢◌ stones × (0 < length stones)
 closed_from_turned targets back first stones linked differ t =
     let L : List ℕ → Type 0 = λ l. Linked targets (first ∷ l) in
     let D : List ℕ → Type 0 = λ l. Ordered ◌≢◌ l in
@@ -55,7 +58,8 @@ closed_from_turned targets back first stones linked differ t =
     regroup (y ∷ u) x w = ap (λ l. y ∷ l) (regroup u x w)
 
 -- begun at its smallest stone a closed path of stones that differ is a cycle
-pub IsCycle-from_rotated : (targets : List (List ℕ)) (stones rotated : List ℕ) → IsClosed targets stones → Ordered ◌≢◌ stones → IsRotated stones rotated → IsCycle targets rotated
+pub IsCycle-from_rotated : (targets : List (List ℕ)) (stones rotated : List ℕ) → IsClosed targets stones → Ordered ◌≢◌ stones
+    → IsRotated stones rotated → IsCycle targets rotated
 IsCycle-from_rotated targets stones rotated closed differ r =
     let k = r.place in
     let m = get_or stones k 0 in
@@ -65,10 +69,18 @@ IsCycle-from_rotated targets stones rotated closed differ r =
     let Y : List ℕ → Type 0 = λ l. IsCycle targets l in
     let parts = take-append-drop k stones in
     let within : k < length stones = r.within in
-    let head : drop k stones ++ take k stones ≡ m ∷ (drop (suc k) stones ++ take k stones) = ap (λ l. l ++ take k stones) (drop-cons stones k 0 within) in
-    let around : IsClosed targets (drop k stones ++ take k stones) = IsClosed-swap targets (take k stones) (drop k stones) (subst C (sym parts) closed) in
-    let apart : Ordered ◌≢◌ (drop k stones ++ take k stones) = Ordered-swap ◌≢◌ differ_both (take k stones) (drop k stones) (subst D (sym parts) differ) in
+    let head : drop k stones ++ take k stones
+    ≡ m ∷ (drop (suc k) stones ++ take k stones) = ap (λ l. l ++ take k stones) (drop-cons stones k 0 within) in
+    let around : IsClosed targets (drop k stones ++ take k stones) = IsClosed-swap targets (take k stones) (drop k stones)
+    (subst C (sym parts) closed) in
+    let apart : Ordered ◌≢◌ (drop k stones ++ take k stones) = Ordered-swap ◌≢◌ differ_both (take k stones) (drop k stones)
+    (subst D (sym parts) differ) in
     let least : All (λ s. m ≤ s) stones = All-from_get_or (λ s. m ≤ s) stones 0 r.least in
-    let above : All (λ s. m ≤ s) (drop k stones ++ take k stones) = All-append (λ s. m ≤ s) (drop k stones) (take k stones) (All-drop (λ s. m ≤ s) k stones least) (All-take (λ s. m ≤ s) k stones least) in
+    let above : All (λ s. m ≤ s) (drop k stones ++ take k stones) = All-append (λ s. m ≤ s) (drop k stones) (take k stones)
+    (All-drop (λ s. m ≤ s) k stones least) (All-take (λ s. m ≤ s) k stones least) in
     let others = drop (suc k) stones ++ take k stones in
-    subst Y (sym (r.joined ∙ head)) (subst C head around, AllPairs-from_recursion ◌≢◌ (m ∷ others) (subst D head apart), All-tail (λ s. m ≤ s) m others (subst A head above))
+    subst Y (sym (r.joined ∙ head)) (
+      subst C head around,
+      AllPairs-from_recursion ◌≢◌ (m ∷ others) (subst D head apart),
+      All-tail (λ s. m ≤ s) m others (subst A head above),
+    )

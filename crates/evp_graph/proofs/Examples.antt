@@ -11,11 +11,14 @@ route source positions stones = record { source = source; positions = positions;
 abbrev diamond : Shape
 diamond = shape (0 ∷ []) ((1 ∷ 2 ∷ []) ∷ (3 ∷ []) ∷ (3 ∷ []) ∷ [] ∷ [])
 
-routes_of-diamond : routes_of diamond ≡ route 0 [] (0 ∷ []) ∷ route 0 (0 ∷ []) (0 ∷ 1 ∷ []) ∷ route 0 (0 ∷ 0 ∷ []) (0 ∷ 1 ∷ 3 ∷ []) ∷ route 0 (1 ∷ []) (0 ∷ 2 ∷ []) ∷ route 0 (1 ∷ 0 ∷ []) (0 ∷ 2 ∷ 3 ∷ []) ∷ []
+routes_of-diamond : routes_of diamond
+    ≡ route 0 [] (0 ∷ []) ∷ route 0 (0 ∷ []) (0 ∷ 1 ∷ []) ∷ route 0 (0 ∷ 0 ∷ []) (0 ∷ 1 ∷ 3 ∷ []) ∷ route 0 (1 ∷ []) (0 ∷ 2 ∷ []) ∷ route 0
+    (1 ∷ 0 ∷ []) (0 ∷ 2 ∷ 3 ∷ []) ∷ []
 routes_of-diamond = refl
 
 -- two positions that name one stone make two routes, and a stone that no route reaches makes none
-routes_of-twice : routes_of (shape (0 ∷ []) ((1 ∷ 1 ∷ []) ∷ [] ∷ (0 ∷ []) ∷ [])) ≡ route 0 [] (0 ∷ []) ∷ route 0 (0 ∷ []) (0 ∷ 1 ∷ []) ∷ route 0 (1 ∷ []) (0 ∷ 1 ∷ []) ∷ []
+routes_of-twice : routes_of (shape (0 ∷ []) ((1 ∷ 1 ∷ []) ∷ [] ∷ (0 ∷ []) ∷ []))
+    ≡ route 0 [] (0 ∷ []) ∷ route 0 (0 ∷ []) (0 ∷ 1 ∷ []) ∷ route 0 (1 ∷ []) (0 ∷ 1 ∷ []) ∷ []
 routes_of-twice = refl
 
 -- two sources at one stone
@@ -29,7 +32,9 @@ is_route = (refl, (refl, (refl, tt)))
 abbrev chain : ℕ → List (List ℕ)
 chain n = (suc n ∷ suc n ∷ []) ∷ []
 
-ten_splits : length (routes_of (shape (0 ∷ []) (chain 0 ++ chain 1 ++ chain 2 ++ chain 3 ++ chain 4 ++ chain 5 ++ chain 6 ++ chain 7 ++ chain 8 ++ chain 9 ++ [] ∷ []))) ≡ 2047
+ten_splits : length (routes_of
+    (shape (0 ∷ []) (chain 0 ++ chain 1 ++ chain 2 ++ chain 3 ++ chain 4 ++ chain 5 ++ chain 6 ++ chain 7 ++ chain 8 ++ chain 9
+    ++ [] ∷ []))) ≡ 2047
 ten_splits = refl
 
 -- a stone that reaches itself over another

@@ -14,6 +14,7 @@ no_cycle graph (first ∷ others) h sound = sound.acyclic first (others, h.0)
 
 pub RulesOut-from_fault : (graph : Shape) (fault : GraphFault) → IsFault graph fault → RulesOut graph fault
 RulesOut-from_fault graph (NoStone k) h n sound = outside_no_stones (length graph.targets) graph.sources k h sound.sources
-RulesOut-from_fault graph (NoTarget stone position) h n sound = outside_no_stones (length graph.targets) (targets_of graph.targets stone) position h.1.lost (sound.targets stone [] h.1.within)
+RulesOut-from_fault graph (NoTarget stone position) h n sound = outside_no_stones (length graph.targets)
+    (targets_of graph.targets stone) position h.1.lost (sound.targets stone [] h.1.within)
 RulesOut-from_fault graph (Cycle stones) h n sound = no_cycle graph stones h.2 sound
 RulesOut-from_fault graph Memory h n sound = n refl

@@ -33,7 +33,8 @@ pub Each-always : {X : Type 0} (P : X → Type 0) → ((x : X) → P x) → (xs 
 Each-always P f [] = tt
 Each-always P f (x ∷ xs) = (f x, Each-always P f xs)
 
-pub Ordered-append : {X : Type 0} (R : X → X → Type 0) (xs ys : List X) → Ordered R xs → Ordered R ys → Across R xs ys → Ordered R (xs ++ ys)
+pub Ordered-append : {X : Type 0} (R : X → X → Type 0) (xs ys : List X) → Ordered R xs → Ordered R ys → Across R xs ys
+    → Ordered R (xs ++ ys)
 Ordered-append R [] ys h k a = k
 Ordered-append R (x ∷ xs) ys h k a = (Each-append (R x) xs ys h.0 a.0, Ordered-append R xs ys h.1 k a.1)
 
@@ -56,21 +57,25 @@ pub Across-flip : {X : Type 0} (R : X → X → Type 0) → ((x y : X) → R x y
 Across-flip R f [] ys h = Each-always (λ y. AllByRecursion (R y) []) (λ y. tt) ys
 Across-flip R f (x ∷ xs) ys h = Across-cons R f x xs ys h.0 (Across-flip R f xs ys h.1)
   where
-    Across-cons : {X : Type 0} (R : X → X → Type 0) → ((x y : X) → R x y → R y x) → (x : X) (xs ys : List X) → AllByRecursion (R x) ys → Across R ys xs → Across R ys (x ∷ xs)
+    Across-cons : {X : Type 0} (R : X → X → Type 0) → ((x y : X) → R x y → R y x) → (x : X) (xs ys : List X) → AllByRecursion (R x) ys
+        → Across R ys xs → Across R ys (x ∷ xs)
     Across-cons R f x xs [] h k = tt
     Across-cons R f x xs (y ∷ ys) h k = ((f x y h.0, k.0), Across-cons R f x xs ys h.1 k.1)
 
 -- for a relation that goes both ways the parts may change places, and the order be turned
-pub Ordered-swap : {X : Type 0} (R : X → X → Type 0) → ((x y : X) → R x y → R y x) → (xs ys : List X) → Ordered R (xs ++ ys) → Ordered R (ys ++ xs)
+pub Ordered-swap : {X : Type 0} (R : X → X → Type 0) → ((x y : X) → R x y → R y x) → (xs ys : List X) → Ordered R (xs ++ ys)
+    → Ordered R (ys ++ xs)
 Ordered-swap R f xs ys h =
     let k = Ordered-split R xs ys h in
     Ordered-append R ys xs k.1 k.0 (Across-flip R f xs ys k.2)
 
-pub Ordered-reverse : {X : Type 0} (R : X → X → Type 0) → ((x y : X) → R x y → R y x) → (xs : List X) → Ordered R xs → Ordered R (reverse xs)
+pub Ordered-reverse : {X : Type 0} (R : X → X → Type 0) → ((x y : X) → R x y → R y x) → (xs : List X) → Ordered R xs
+    → Ordered R (reverse xs)
 Ordered-reverse R f [] h = tt
 Ordered-reverse R f (x ∷ xs) h =
     let P : List _ → Type 0 = λ l. Ordered R l in
-    subst P (sym (reverse-append (x ∷ []) xs)) (Ordered-swap R f (x ∷ []) (reverse xs) (Each-reverse (R x) xs h.0, Ordered-reverse R f xs h.1))
+    subst P (sym (reverse-append (x ∷ []) xs))
+    (Ordered-swap R f (x ∷ []) (reverse xs) (Each-reverse (R x) xs h.0, Ordered-reverse R f xs h.1))
   where
     Each-reverse : {X : Type 0} (P : X → Type 0) (xs : List X) → AllByRecursion P xs → AllByRecursion P (reverse xs)
     Each-reverse P [] h = tt
@@ -98,27 +103,34 @@ pub Stands-later : (p b : ℕ) (row : List ℕ) (q c : ℕ) → Stands (p + 1) r
 Stands-later p b row q c s = let n = s.number in record { place = suc s.place; number = omega arith; there = s.there }
 
 -- what holds of each piece holds of the pieces joined
-pub Each-flat_map : {X : Type 0} (P : X → Type 0) (F : ℕ × ℕ → List X) (p : ℕ) (row : List ℕ) → ((q b : ℕ) → Stands p row q b → AllByRecursion P (F (q, b))) → AllByRecursion P (flat_map F (enumerate_from p row))
+pub Each-flat_map : {X : Type 0} (P : X → Type 0) (F : ℕ × ℕ → List X) (p : ℕ) (row : List ℕ)
+    → ((q b : ℕ) → Stands p row q b → AllByRecursion P (F (q, b))) → AllByRecursion P (flat_map F (enumerate_from p row))
 Each-flat_map P F p [] f = tt
-Each-flat_map P F p (b ∷ row) f = Each-append P (F (p, b)) (flat_map F (enumerate_from (p + 1) row)) (f p b (Stands-first p b row)) (Each-flat_map P F (p + 1) row (λ q c s. f q c (Stands-later p b row q c s)))
+Each-flat_map P F p (b ∷ row) f = Each-append P (F (p, b)) (flat_map F (enumerate_from (p + 1) row)) (f p b (Stands-first p b row))
+    (Each-flat_map P F (p + 1) row (λ q c s. f q c (Stands-later p b row q c s)))
 
-pub same_pieces : {X : Type 0} (F G : ℕ × ℕ → List X) (p : ℕ) (row : List ℕ) → ((q b : ℕ) → Stands p row q b → F (q, b) ≡ G (q, b)) → flat_map F (enumerate_from p row) ≡ flat_map G (enumerate_from p row)
+pub same_pieces : {X : Type 0} (F G : ℕ × ℕ → List X) (p : ℕ) (row : List ℕ) → ((q b : ℕ) → Stands p row q b → F (q, b) ≡ G (q, b))
+    → flat_map F (enumerate_from p row) ≡ flat_map G (enumerate_from p row)
 same_pieces F G p [] f = refl
 same_pieces F G p (b ∷ row) f =
     let here = f p b (Stands-first p b row) in
     let more = same_pieces F G (p + 1) row (λ q c s. f q c (Stands-later p b row q c s)) in
     cc
 
-pub Contains-flat_map : {X : Type 0} (F : ℕ × ℕ → List X) (p : ℕ) (row : List ℕ) (q b k : ℕ) (x : X) → q ≡ p + k → slice_get row k ≡ Some b → Contains (F (q, b)) x → Contains (flat_map F (enumerate_from p row)) x
+pub Contains-flat_map : {X : Type 0} (F : ℕ × ℕ → List X) (p : ℕ) (row : List ℕ) (q b k : ℕ) (x : X) → q ≡ p + k → slice_get row k ≡ Some b
+    → Contains (F (q, b)) x → Contains (flat_map F (enumerate_from p row)) x
 Contains-flat_map F p [] q b k x n e h = absurd (let none : ⊥ = cc in none)
 Contains-flat_map F p (c ∷ row) q b zero x n e h =
     let number : q ≡ p = omega arith in
     let same : F (q, b) ≡ F (p, c) = cc in
-    Contains-append_left (F (p, c)) (flat_map F (enumerate_from (p + 1) row)) x (let P : List _ → Type 0 = λ l. Contains l x in subst P same h)
-Contains-flat_map F p (c ∷ row) q b (suc k) x n e h = Contains-append_right (F (p, c)) (flat_map F (enumerate_from (p + 1) row)) x (Contains-flat_map F (p + 1) row q b k x (omega arith) e h)
+    Contains-append_left (F (p, c)) (flat_map F (enumerate_from (p + 1) row)) x (let P : List _ → Type 0 = λ l. Contains l x in
+    subst P same h)
+Contains-flat_map F p (c ∷ row) q b (suc k) x n e h = Contains-append_right (F (p, c)) (flat_map F (enumerate_from (p + 1) row)) x
+    (Contains-flat_map F (p + 1) row q b k x (omega arith) e h)
 
 -- what is left of an enumeration from a place on
-pub enumerated_from : {Y : Type 0} (f : ℕ × ℕ → Y) (p : ℕ) (row : List ℕ) (k q : ℕ) → q ≡ p + k → k < length row → drop k (map f (enumerate_from p row)) ≡ f (q, get_or row k 0) ∷ drop (suc k) (map f (enumerate_from p row))
+pub enumerated_from : {Y : Type 0} (f : ℕ × ℕ → Y) (p : ℕ) (row : List ℕ) (k q : ℕ) → q ≡ p + k → k < length row
+    → drop k (map f (enumerate_from p row)) ≡ f (q, get_or row k 0) ∷ drop (suc k) (map f (enumerate_from p row))
 enumerated_from f p [] k q n lt = absurd (omega arith)
 enumerated_from f p (b ∷ row) zero q n lt =
     let number : p ≡ q = omega arith in
@@ -136,12 +148,16 @@ length-enumerated f p (b ∷ row) = ap suc (length-enumerated f (p + 1) row)
 
 -- a list that is turned grows at its end where the other grows in front
 pub reverse_more : {X : Type 0} (old xs ys : List X) (x : X) → ys ≡ x ∷ xs → (old ++ reverse xs) ++ x ∷ [] ≡ old ++ reverse ys
-reverse_more old xs ys x e = append_assoc old (reverse xs) (x ∷ []) ∙ ap (λ l. old ++ l) (sym (reverse-append (x ∷ []) xs)) ∙ ap (λ l. old ++ reverse l) (sym e)
+reverse_more old xs ys x e = append_assoc old (reverse xs) (x ∷ []) ∙ ap (λ l. old ++ l) (sym (reverse-append (x ∷ []) xs))
+    ∙ ap (λ l. old ++ reverse l) (sym e)
 
 -- pushed from the last number down, the entries of an enumeration stand the other way round
-pub enumerated_pushed : {Y : Type 0} (f : ℕ × ℕ → Y) (row : List ℕ) (old items : List Y) (s k b : ℕ) (y : Y) → s ≡ suc k → k < length row → items ≡ old ++ reverse (drop s (map f (enumerate_from 0 row))) → b ≡ get_or row k 0 → y ≡ f (k, b) → items ++ y ∷ [] ≡ old ++ reverse (drop k (map f (enumerate_from 0 row)))
+pub enumerated_pushed : {Y : Type 0} (f : ℕ × ℕ → Y) (row : List ℕ) (old items : List Y) (s k b : ℕ) (y : Y) → s ≡ suc k → k < length row
+    → items ≡ old ++ reverse (drop s (map f (enumerate_from 0 row))) → b ≡ get_or row k 0 → y ≡ f (k, b)
+    → items ++ y ∷ [] ≡ old ++ reverse (drop k (map f (enumerate_from 0 row)))
 enumerated_pushed f row old items s k b y n lt before e here =
-    let split : drop k (map f (enumerate_from 0 row)) ≡ f (k, get_or row k 0) ∷ drop (suc k) (map f (enumerate_from 0 row)) = enumerated_from f 0 row k k (omega arith) lt in
+    let split : drop k (map f (enumerate_from 0 row))
+    ≡ f (k, get_or row k 0) ∷ drop (suc k) (map f (enumerate_from 0 row)) = enumerated_from f 0 row k k (omega arith) lt in
     let entry : f (k, get_or row k 0) ≡ y = cc in
     let there : drop k (map f (enumerate_from 0 row)) ≡ y ∷ drop s (map f (enumerate_from 0 row)) = cc in
     ap (λ l. l ++ y ∷ []) before ∙ reverse_more old (drop s (map f (enumerate_from 0 row))) (drop k (map f (enumerate_from 0 row))) y there

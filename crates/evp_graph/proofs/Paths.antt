@@ -13,12 +13,14 @@ use Rattle.evp_graph.specs.Search.{IsSafe}
 use Rattle.evp_graph.proofs.Lists.{Each-weaker}
 
 -- two paths, one behind the other
-pub Leads-append : (targets : List (List ℕ)) (a : ℕ) (u : List ℕ) (c : ℕ) (w : List ℕ) (b : ℕ) → Leads targets a u c → Leads targets c w b → Leads targets a (u ++ c ∷ w) b
+pub Leads-append : (targets : List (List ℕ)) (a : ℕ) (u : List ℕ) (c : ℕ) (w : List ℕ) (b : ℕ) → Leads targets a u c → Leads targets c w b
+    → Leads targets a (u ++ c ∷ w) b
 Leads-append targets a [] c w b h k = (h, k)
 Leads-append targets a (d ∷ u) c w b h k = (h.0, Leads-append targets d u c w b h.1 k)
 
 -- a path through c goes to c and on from there
-pub Leads-split : (targets : List (List ℕ)) (a : ℕ) (u : List ℕ) (c : ℕ) (w : List ℕ) (b : ℕ) → Leads targets a (u ++ c ∷ w) b → Leads targets a u c × Leads targets c w b
+pub Leads-split : (targets : List (List ℕ)) (a : ℕ) (u : List ℕ) (c : ℕ) (w : List ℕ) (b : ℕ) → Leads targets a (u ++ c ∷ w) b
+    → Leads targets a u c × Leads targets c w b
 Leads-split targets a [] c w b h = (h.0, h.1)
 Leads-split targets a (d ∷ u) c w b h = let k = Leads-split targets d u c w b h.1 in ((h.0, k.0), k.1)
 
@@ -28,7 +30,11 @@ Reaches-target targets a b c r t = (r.0 ++ b ∷ [], Leads-append targets a r.0 
 -- a stone is safe where its targets are
 pub IsSafe-from_targets : (targets : List (List ℕ)) (a : ℕ) → ((c : ℕ) → IsTarget targets a c → IsSafe targets c) → IsSafe targets a
 IsSafe-from_targets targets a safe b reached again =
-    elim reached [ inl e ↦ (let P : ℕ → Type 0 = λ x. Reaches targets x b in let r : Reaches targets a b = subst P (sym e) again in onward r.0 r.1) | inr r ↦ onward r.0 r.1 ]
+    elim reached [
+      | inl e ↦ (let P : ℕ → Type 0 = λ x. Reaches targets x b in let r : Reaches targets a b = subst P (sym e) again in
+          onward r.0 r.1)
+      | inr r ↦ onward r.0 r.1
+    ]
   where
     onward : (between : List ℕ) → Leads targets a between b → ⊥
     onward [] h = safe b h b (inl refl) again
@@ -56,7 +62,8 @@ Contains-from_get row p b e = (p, within row p e, get_or_from_slice_get row p b 
     within (c ∷ row) (suc p) e = let k = within row p e in omega arith
 
 -- what has a target of a above it has all that a's steps visit above it
-visited : (targets : List (List ℕ)) (x a : ℕ) (positions stones : List ℕ) → ((y : ℕ) → IsTarget targets a y → Reaches targets x y) → Steps targets a positions stones → AllByRecursion (λ y. Reaches targets x y) stones
+visited : (targets : List (List ℕ)) (x a : ℕ) (positions stones : List ℕ) → ((y : ℕ) → IsTarget targets a y → Reaches targets x y)
+    → Steps targets a positions stones → AllByRecursion (λ y. Reaches targets x y) stones
 visited targets x a [] [] f s = tt
 visited targets x a [] (b ∷ stones) f s = absurd s
 visited targets x a (p ∷ positions) [] f s = absurd s
@@ -68,30 +75,39 @@ differs : (x y : ℕ) → x ≢ y → eqb x y ≡ false
 differs x y h = grind (arith, nat_tests)
 
 -- without a cycle no stone is visited twice
-Steps-distinct : (targets : List (List ℕ)) → IsAcyclic targets → (a : ℕ) (positions stones : List ℕ) → Steps targets a positions stones → IsDistinct eqb (a ∷ stones)
+Steps-distinct : (targets : List (List ℕ)) → IsAcyclic targets → (a : ℕ) (positions stones : List ℕ) → Steps targets a positions stones
+    → IsDistinct eqb (a ∷ stones)
 unfolding IsDistinct
 Steps-distinct targets acyclic a [] [] s = (tt, tt)
 Steps-distinct targets acyclic a [] (b ∷ stones) s = absurd s
 Steps-distinct targets acyclic a (p ∷ positions) [] s = absurd s
 Steps-distinct targets acyclic a (p ∷ positions) (b ∷ stones) s =
-    let above = visited targets a a (p ∷ positions) (b ∷ stones) (λ y t. ([], t)) s in
-    (Each-weaker (λ y. Reaches targets a y) (λ y. eqb a y ≡ false) (λ y r. differs a y (λ e. acyclic a (let P : ℕ → Type 0 = λ z. Reaches targets a z in subst P (sym e) r))) (b ∷ stones) above, Steps-distinct targets acyclic b positions stones s.1)
+    let above = visited targets a a (p ∷ positions) (b ∷ stones) (λ y t. ([], t)) s in (
+      Each-weaker (λ y. Reaches targets a y) (λ y. eqb a y ≡ false)
+          (λ y r. differs a y (λ e. acyclic a (let P : ℕ → Type 0 = λ z. Reaches targets a z in subst P (sym e) r))) (b ∷ stones) above,
+      Steps-distinct targets acyclic b positions stones s.1,
+    )
 
-pub target_below : (targets : List (List ℕ)) → HaveTargets targets → (a p b : ℕ) → a < length targets → slice_get (targets_of targets a) p ≡ Some b → b < length targets
+pub target_below : (targets : List (List ℕ)) → HaveTargets targets → (a p b : ℕ) → a < length targets
+    → slice_get (targets_of targets a) p ≡ Some b → b < length targets
 target_below targets have a p b lt e =
     let t = Contains-from_get (targets_of targets a) p b e in
     All-contains (λ n. n < length targets) (targets_of targets a) b (have a [] lt) t
 
-visited_below : (targets : List (List ℕ)) → HaveTargets targets → (a : ℕ) (positions stones : List ℕ) → a < length targets → Steps targets a positions stones → AllByRecursion (λ n. n < length targets) (a ∷ stones)
+visited_below : (targets : List (List ℕ)) → HaveTargets targets → (a : ℕ) (positions stones : List ℕ) → a < length targets
+    → Steps targets a positions stones → AllByRecursion (λ n. n < length targets) (a ∷ stones)
 visited_below targets have a [] [] lt s = (lt, tt)
 visited_below targets have a [] (b ∷ stones) lt s = absurd s
 visited_below targets have a (p ∷ positions) [] lt s = absurd s
-visited_below targets have a (p ∷ positions) (b ∷ stones) lt s = (lt, visited_below targets have b positions stones (target_below targets have a p b lt s.0) s.1)
+visited_below targets have a (p ∷ positions) (b ∷ stones) lt s =
+    (lt, visited_below targets have b positions stones (target_below targets have a p b lt s.0) s.1)
 
 -- without a cycle a stone's steps visit fewer stones than there are
-pub length-steps : (targets : List (List ℕ)) → HaveTargets targets → IsAcyclic targets → (a : ℕ) (positions stones : List ℕ) → a < length targets → Steps targets a positions stones → length stones < length targets
+pub length-steps : (targets : List (List ℕ)) → HaveTargets targets → IsAcyclic targets → (a : ℕ) (positions stones : List ℕ)
+    → a < length targets → Steps targets a positions stones → length stones < length targets
 length-steps targets have acyclic a positions stones lt s =
     let below = All-from_recursion (λ n. n < length targets) (a ∷ stones) (visited_below targets have a positions stones lt s) in
     let same : (x y : ℕ) → eqb x y ≡ true → x ≡ y = λ x y e. grind (arith, nat_tests) in
-    let few = length-le_from_distinct_below (a ∷ stones) (length targets) (Steps-distinct targets acyclic a positions stones s) (λ q e. All-contains (λ n. n < length targets) (a ∷ stones) q below (Contains-from_any same q (a ∷ stones) e)) in
+    let few = length-le_from_distinct_below (a ∷ stones) (length targets) (Steps-distinct targets acyclic a positions stones s)
+    (λ q e. All-contains (λ n. n < length targets) (a ∷ stones) q below (Contains-from_any same q (a ∷ stones) e)) in
     omega arith

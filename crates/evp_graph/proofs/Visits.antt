@@ -37,7 +37,8 @@ pub record Searching (targets : List (List ℕ)) (marks : List Mark) (visits : L
   pub differ : Ordered ◌≢◌ (map stone_of visits)
   pub linked : Linked targets (map stone_of visits)
 
-set_cases : (marks : List Mark) (t s : ℕ) (mark : Mark) → t < length marks → ((s ≡ t) × (mark_of (set marks t mark) s ≡ mark)) ⊎ ((s ≢ t) × (mark_of (set marks t mark) s ≡ mark_of marks s))
+set_cases : (marks : List Mark) (t s : ℕ) (mark : Mark) → t < length marks
+    → ((s ≡ t) × (mark_of (set marks t mark) s ≡ mark)) ⊎ ((s ≢ t) × (mark_of (set marks t mark) s ≡ mark_of marks s))
 set_cases marks t s mark lt = cases (nat_cases s t)
   where
     nat_cases : (s t : ℕ) → (s ≡ t) ⊎ (s ≢ t)
@@ -46,8 +47,13 @@ set_cases marks t s mark lt = cases (nat_cases s t)
     nat_cases (suc s) zero = inr (λ e. omega arith)
     nat_cases (suc s) (suc t) = elim (nat_cases s t) [ inl e ↦ inl (ap suc e) | inr n ↦ inr (λ e. n (omega arith)) ]
 
-    cases : (s ≡ t) ⊎ (s ≢ t) → ((s ≡ t) × (mark_of (set marks t mark) s ≡ mark)) ⊎ ((s ≢ t) × (mark_of (set marks t mark) s ≡ mark_of marks s))
-    cases (inl e) = inl (e, (let P : ℕ → Type 0 = λ x. mark_of (set marks t mark) x ≡ mark in subst P (sym e) (get_or-set_same marks t mark New lt)))
+    cases : (s ≡ t) ⊎ (s ≢ t)
+        → ((s ≡ t) × (mark_of (set marks t mark) s ≡ mark)) ⊎ ((s ≢ t) × (mark_of (set marks t mark) s ≡ mark_of marks s))
+    cases (inl e) = inl (
+      e,
+      (let P : ℕ → Type 0 = λ x. mark_of (set marks t mark) x ≡ mark in
+          subst P (sym e) (get_or-set_same marks t mark New lt)),
+    )
     cases (inr n) = inr (n, get_or-set_other marks t s mark New n)
 
 -- a stone that is marked otherwise is another one
@@ -64,20 +70,24 @@ pub done≢new : Done ≢ New
 done≢new e = cc
 
 -- marked anew, a stone keeps its mark where it is another one, and has the new one where it is the same
-kept_mark : (marks : List Mark) (t s : ℕ) (mark m : Mark) → t < length marks → s ≢ t → mark_of marks s ≡ m → mark_of (set marks t mark) s ≡ m
+kept_mark : (marks : List Mark) (t s : ℕ) (mark m : Mark) → t < length marks → s ≢ t → mark_of marks s ≡ m
+    → mark_of (set marks t mark) s ≡ m
 kept_mark marks t s mark m lt n h = get_or-set_other marks t s mark New n ∙ h
 
 length_marked : (marks : List Mark) (t : ℕ) (mark : Mark) → length (set marks t mark) ≡ length marks
 length_marked marks t mark = length-set marks t mark
 
 -- before anything is visited
-pub Searching-first : (targets : List (List ℕ)) (marks : List Mark) (start : ℕ) → IsSettled targets marks → start < length targets → mark_of marks start ≡ New → Searching targets (set marks start Open) (record { stone = start; position = 0 } ∷ [])
+pub Searching-first : (targets : List (List ℕ)) (marks : List Mark) (start : ℕ) → IsSettled targets marks → start < length targets
+    → mark_of marks start ≡ New → Searching targets (set marks start Open) (record { stone = start; position = 0 } ∷ [])
 Searching-first targets marks start settled lt fresh =
     let inside : start < length marks = omega (arith, settled.lengths) in
     record {
       lengths = length_marked marks start Open ∙ settled.lengths;
-      done = λ s e. elim (set_cases marks start s Open inside) [ inl h ↦ absurd (open≢done (sym h.1 ∙ e)) | inr h ↦ settled.safe s (sym h.1 ∙ e) ];
-      open_on = λ s e. elim (set_cases marks start s Open inside) [ inl h ↦ inl (sym h.0) | inr h ↦ absurd (settled.closed s (sym h.1 ∙ e)) ];
+      done = λ s e. elim (set_cases marks start s Open inside)
+          [ inl h ↦ absurd (open≢done (sym h.1 ∙ e)) | inr h ↦ settled.safe s (sym h.1 ∙ e) ];
+      open_on = λ s e. elim
+          (set_cases marks start s Open inside) [ inl h ↦ inl (sym h.0) | inr h ↦ absurd (settled.closed s (sym h.1 ∙ e)) ];
       on_open = (get_or-set_same marks start Open New inside, tt);
       parts = (record { within = lt; position = omega arith; safe = λ k h. absurd (omega arith) }, tt);
       differ = (tt, tt);
@@ -85,7 +95,10 @@ Searching-first targets marks start settled lt fresh =
     }
 
 -- a target that is done is passed over
-pub Searching-passed : (targets : List (List ℕ)) (marks : List Mark) (here : Visit) (visits : List Visit) → Searching targets marks (here ∷ visits) → here.position < length (targets_of targets here.stone) → mark_of marks (get_or (targets_of targets here.stone) here.position 0) ≡ Done → Searching targets marks (record { stone = here.stone; position = here.position + 1 } ∷ visits)
+pub Searching-passed : (targets : List (List ℕ)) (marks : List Mark) (here : Visit) (visits : List Visit)
+    → Searching targets marks (here ∷ visits) → here.position < length (targets_of targets here.stone)
+    → mark_of marks (get_or (targets_of targets here.stone) here.position 0) ≡ Done
+    → Searching targets marks (record { stone = here.stone; position = here.position + 1 } ∷ visits)
 Searching-passed targets marks here visits h lt e =
     let part = h.parts.0 in
     record {
@@ -93,13 +106,23 @@ Searching-passed targets marks here visits h lt e =
       done = h.done;
       open_on = h.open_on;
       on_open = h.on_open;
-      parts = (record { within = part.within; position = omega arith; safe = below_more (λ k. IsSafe targets (get_or (targets_of targets here.stone) k 0)) here.position part.safe (h.done (get_or (targets_of targets here.stone) here.position 0) e) }, h.parts.1);
+      parts = (
+        record {
+          within = part.within;
+          position = omega arith;
+          safe = below_more (λ k. IsSafe targets (get_or (targets_of targets here.stone) k 0)) here.position part.safe
+              (h.done (get_or (targets_of targets here.stone) here.position 0) e);
+        },
+        h.parts.1,
+      );
       differ = h.differ;
       linked = h.linked;
     }
 
 -- a new target is visited
-pub Searching-entered : (targets : List (List ℕ)) (marks : List Mark) (here : Visit) (visits : List Visit) (t : ℕ) → Searching targets marks (here ∷ visits) → IsTarget targets here.stone t → t < length targets → mark_of marks t ≡ New → Searching targets (set marks t Open) (record { stone = t; position = 0 } ∷ here ∷ visits)
+pub Searching-entered : (targets : List (List ℕ)) (marks : List Mark) (here : Visit) (visits : List Visit) (t : ℕ)
+    → Searching targets marks (here ∷ visits) → IsTarget targets here.stone t → t < length targets → mark_of marks t ≡ New
+    → Searching targets (set marks t Open) (record { stone = t; position = 0 } ∷ here ∷ visits)
 Searching-entered targets marks here visits t h target lt fresh =
     let inside : t < length marks = omega (arith, h.lengths) in
     let stones = map stone_of (here ∷ visits) in
@@ -107,32 +130,50 @@ Searching-entered targets marks here visits t h target lt fresh =
       lengths = length_marked marks t Open ∙ h.lengths;
       done = λ s e. elim (set_cases marks t s Open inside) [ inl k ↦ absurd (open≢done (sym k.1 ∙ e)) | inr k ↦ h.done s (sym k.1 ∙ e) ];
       open_on = λ s e. elim (set_cases marks t s Open inside) [ inl k ↦ inl (sym k.0) | inr k ↦ inr (h.open_on s (sym k.1 ∙ e)) ];
-      on_open = (get_or-set_same marks t Open New inside, Each-weaker (λ s. mark_of marks s ≡ Open) (λ s. mark_of (set marks t Open) s ≡ Open) (λ s e. kept_mark marks t s Open Open inside (other_stone marks s t Open New e fresh open≢new) e) stones h.on_open);
+      on_open = (
+        get_or-set_same marks t Open New inside,
+        Each-weaker (λ s. mark_of marks s ≡ Open) (λ s. mark_of (set marks t Open) s ≡ Open)
+            (λ s e. kept_mark marks t s Open Open inside (other_stone marks s t Open New e fresh open≢new) e) stones h.on_open,
+      );
       parts = (record { within = lt; position = omega arith; safe = λ k l. absurd (omega arith) }, h.parts);
-      differ = (Each-weaker (λ s. mark_of marks s ≡ Open) (λ s. t ≢ s) (λ s e q. other_stone marks s t Open New e fresh open≢new (sym q)) stones h.on_open, h.differ);
+      differ = (
+        Each-weaker (λ s. mark_of marks s ≡ Open) (λ s. t ≢ s)
+            (λ s e q. other_stone marks s t Open New e fresh open≢new (sym q)) stones h.on_open,
+        h.differ,
+      );
       linked = (target, h.linked);
     }
 
 -- a stone all of whose targets were passed over is done
-pub Searching-left : (targets : List (List ℕ)) (marks : List Mark) (here : Visit) (visits : List Visit) → Searching targets marks (here ∷ visits) → here.position ≡ length (targets_of targets here.stone) → Searching targets (set marks here.stone Done) visits
+pub Searching-left : (targets : List (List ℕ)) (marks : List Mark) (here : Visit) (visits : List Visit)
+    → Searching targets marks (here ∷ visits) → here.position ≡ length (targets_of targets here.stone)
+    → Searching targets (set marks here.stone Done) visits
 Searching-left targets marks here visits h all =
     let part = h.parts.0 in
     let inside : here.stone < length marks = omega (arith, h.lengths, part.within) in
     let row = targets_of targets here.stone in
     let P : ℕ → Type 0 = IsSafe targets in
-    let targets_safe : (c : ℕ) → IsTarget targets here.stone c → IsSafe targets c = λ c t. (let at : IsSafe targets (get_or row t.0 0) = part.safe t.0 (omega (arith, t.1, all)) in subst P (get_or_default row t.0 0 c t.1 ∙ t.2) at) in
+    let targets_safe : (c : ℕ) → IsTarget targets here.stone c → IsSafe targets c = λ c t.
+    (let at : IsSafe targets (get_or row t.0 0) = part.safe t.0 (omega (arith, t.1, all)) in
+    subst P (get_or_default row t.0 0 c t.1 ∙ t.2) at) in
     let safe : IsSafe targets here.stone = IsSafe-from_targets targets here.stone targets_safe in
     record {
       lengths = length_marked marks here.stone Done ∙ h.lengths;
       done = λ s e. elim (set_cases marks here.stone s Done inside) [ inl k ↦ subst P (sym k.0) safe | inr k ↦ h.done s (sym k.1 ∙ e) ];
-      open_on = λ s e. elim (set_cases marks here.stone s Done inside) [ inl k ↦ absurd (open≢done (sym e ∙ k.1)) | inr k ↦ elim (h.open_on s (sym k.1 ∙ e)) [ inl q ↦ absurd (k.0 (sym q)) | inr on ↦ on ] ];
+      open_on = λ s e. elim
+          (set_cases marks here.stone s Done inside) [
+            | inl k ↦ absurd (open≢done (sym e ∙ k.1))
+            | inr k ↦ elim
+                (h.open_on s (sym k.1 ∙ e)) [ inl q ↦ absurd (k.0 (sym q)) | inr on ↦ on ]
+          ];
       on_open = both (map stone_of visits) h.on_open.1 h.differ.0;
       parts = h.parts.1;
       differ = h.differ.1;
       linked = rest_linked (map stone_of visits) h.linked;
     }
   where
-    both : (stones : List ℕ) → AllByRecursion (λ s. mark_of marks s ≡ Open) stones → AllByRecursion (λ s. here.stone ≢ s) stones → AllByRecursion (λ s. mark_of (set marks here.stone Done) s ≡ Open) stones
+    both : (stones : List ℕ) → AllByRecursion (λ s. mark_of marks s ≡ Open) stones → AllByRecursion (λ s. here.stone ≢ s) stones
+        → AllByRecursion (λ s. mark_of (set marks here.stone Done) s ≡ Open) stones
     both [] o d = tt
     both (s ∷ stones) o d = (get_or-set_other marks here.stone s Done New (λ e. d.0 (sym e)) ∙ o.0, both stones o.1 d.1)
 
@@ -164,8 +205,10 @@ abbrev pub work : List (List ℕ) → List Mark → List Visit → ℕ
 work targets marks visits = 65537 * sum_by newness marks + room targets visits
 
 -- a mark of another newness changes the number of new stones by the difference
-pub newness_marked : (marks : List Mark) (t : ℕ) (old mark : Mark) → t < length marks → mark_of marks t ≡ old → sum_by newness (set marks t mark) + newness old ≡ sum_by newness marks + newness mark
-newness_marked marks t old mark lt e = let s = sum_by-set newness marks t mark New lt in ap (λ m. sum_by newness (set marks t mark) + newness m) (sym e) ∙ s
+pub newness_marked : (marks : List Mark) (t : ℕ) (old mark : Mark) → t < length marks → mark_of marks t ≡ old
+    → sum_by newness (set marks t mark) + newness old ≡ sum_by newness marks + newness mark
+newness_marked marks t old mark lt e = let s = sum_by-set newness marks t mark New lt in
+    ap (λ m. sum_by newness (set marks t mark) + newness m) (sym e) ∙ s
 
 pub IsOn-from_contains : (s : ℕ) (stones : List ℕ) → Contains stones s → IsOn s stones
 IsOn-from_contains s [] h = let k : h.0 < 0 = h.1 in absurd (omega arith)
@@ -176,18 +219,21 @@ IsOn-from_contains s (x ∷ stones) h = at_place (IsOn-from_contains s stones) h
     at_place later (suc k) lt e = inr (later (k, omega arith, e))
 
 -- a stone that was begun stays so
-pub begun_marked : (marks : List Mark) (t s : ℕ) (mark : Mark) → t < length marks → mark ≢ New → mark_of marks s ≢ New → mark_of (set marks t mark) s ≢ New
+pub begun_marked : (marks : List Mark) (t s : ℕ) (mark : Mark) → t < length marks → mark ≢ New → mark_of marks s ≢ New
+    → mark_of (set marks t mark) s ≢ New
 begun_marked marks t s mark lt n h e = elim (set_cases marks t s mark lt) [ inl k ↦ n (sym k.1 ∙ e) | inr k ↦ h (sym k.1 ∙ e) ]
 
 -- a stone that is done stays so where a new one is opened, and where one is done
-pub done_opened : (marks : List Mark) (t s : ℕ) → t < length marks → mark_of marks t ≡ New → mark_of marks s ≡ Done → mark_of (set marks t Open) s ≡ Done
+pub done_opened : (marks : List Mark) (t s : ℕ) → t < length marks → mark_of marks t ≡ New → mark_of marks s ≡ Done
+    → mark_of (set marks t Open) s ≡ Done
 done_opened marks t s lt fresh h = kept_mark marks t s Open Done lt (other_stone marks s t Done New h fresh done≢new) h
 
 pub done_left : (marks : List Mark) (t s : ℕ) → t < length marks → mark_of marks s ≡ Done → mark_of (set marks t Done) s ≡ Done
 done_left marks t s lt h = elim (set_cases marks t s Done lt) [ inl k ↦ k.1 | inr k ↦ k.1 ∙ h ]
 
 -- the row that is read is that of the stone's targets
-pub row_read : (targets : List (List ℕ)) (stone : ℕ) (row item : List ℕ) → stone < length targets → row ≡ item → item ≡ get_or targets stone item → row ≡ targets_of targets stone
+pub row_read : (targets : List (List ℕ)) (stone : ℕ) (row item : List ℕ) → stone < length targets → row ≡ item
+    → item ≡ get_or targets stone item → row ≡ targets_of targets stone
 row_read targets stone row item lt e read = e ∙ get_or_read targets stone item lt read []
 
 -- what is known where the search looks at the target t of the newest visit, and reads its mark
@@ -197,23 +243,33 @@ pub record LooksAt (targets : List (List ℕ)) (marks : List Mark) (here : Visit
   pub inside : t < length marks
   pub marked : mark_of marks t ≡ mark
 
-pub looks_at : (targets : List (List ℕ)) (marks : List Mark) (here : Visit) (visits : List Visit) (row : List ℕ) (mark : Mark) → HaveTargets targets → Searching targets marks (here ∷ visits) → row ≡ targets_of targets here.stone → here.position ≢ length row → mark ≡ get_or marks (get_or row here.position 0) mark → LooksAt targets marks here (get_or row here.position 0) mark
+pub looks_at : (targets : List (List ℕ)) (marks : List Mark) (here : Visit) (visits : List Visit) (row : List ℕ) (mark : Mark)
+    → HaveTargets targets → Searching targets marks (here ∷ visits) → row ≡ targets_of targets here.stone → here.position ≢ length row
+    → mark ≡ get_or marks (get_or row here.position 0) mark → LooksAt targets marks here (get_or row here.position 0) mark
 looks_at targets marks here visits row mark have h e more read =
     let t = get_or row here.position 0 in
     let part = h.parts.0 in
     let before : here.position < length row = (let le = part.position in omega (arith, ap length e)) in
     let Q : List ℕ → Type 0 = λ r. Contains r t in
     let target : IsTarget targets here.stone t = subst Q e (Contains-get_or row here.position 0 before) in
-    let below : t < length targets = All-contains (λ n. n < length targets) (targets_of targets here.stone) t (have here.stone [] part.within) target in
+    let below : t < length targets = All-contains (λ n. n < length targets) (targets_of targets here.stone) t
+    (have here.stone [] part.within) target in
     let inside : t < length marks = omega (arith, h.lengths) in
     record { target = target; within = below; inside = inside; marked = sym (get_or_read marks t mark inside read New) }
 
 -- a target that is done is passed over, as the code reads it
-pub Searching-passed_at : (targets : List (List ℕ)) (marks : List Mark) (here : Visit) (visits : List Visit) (row : List ℕ) → row ≡ targets_of targets here.stone → Searching targets marks (here ∷ visits) → here.position ≢ length row → mark_of marks (get_or row here.position 0) ≡ Done → Searching targets marks (record { stone = here.stone; position = here.position + 1 } ∷ visits)
+pub Searching-passed_at : (targets : List (List ℕ)) (marks : List Mark) (here : Visit) (visits : List Visit) (row : List ℕ)
+    → row ≡ targets_of targets here.stone → Searching targets marks (here ∷ visits) → here.position ≢ length row
+    → mark_of marks (get_or row here.position 0) ≡ Done
+    → Searching targets marks (record { stone = here.stone; position = here.position + 1 } ∷ visits)
 Searching-passed_at targets marks here visits row e h n d =
-    let P : List ℕ → Type 0 = λ r. here.position ≢ length r → mark_of marks (get_or r here.position 0) ≡ Done → Searching targets marks (record { stone = here.stone; position = here.position + 1 } ∷ visits) in
+    let P : List ℕ → Type 0 = λ r. here.position ≢ length r → mark_of marks (get_or r here.position 0) ≡ Done
+    → Searching targets marks (record { stone = here.stone; position = here.position + 1 } ∷ visits) in
     subst P (sym e) (λ m f. Searching-passed targets marks here visits h (let le = h.parts.0.position in omega arith) f) n d
 
 -- to visit a new target leaves less work
-pub work-entered : (targets : List (List ℕ)) (marks : List Mark) (visits : List Visit) (t : ℕ) → t < length marks → mark_of marks t ≡ New → length (targets_of targets t) < 65536 → work targets (set marks t Open) (record { stone = t; position = 0 } ∷ visits) < work targets marks visits
-work-entered targets marks visits t lt fresh few = let n : sum_by newness (set marks t Open) + 1 ≡ sum_by newness marks + 0 = newness_marked marks t New Open lt fresh in omega arith
+pub work-entered : (targets : List (List ℕ)) (marks : List Mark) (visits : List Visit) (t : ℕ) → t < length marks → mark_of marks t ≡ New
+    → length (targets_of targets t) < 65536
+    → work targets (set marks t Open) (record { stone = t; position = 0 } ∷ visits) < work targets marks visits
+work-entered targets marks visits t lt fresh few = let n : sum_by newness (set marks t Open) + 1
+    ≡ sum_by newness marks + 0 = newness_marked marks t New Open lt fresh in omega arith

@@ -16,13 +16,14 @@ pub record IsFirstLost (targets : List (List ℕ)) (stone position : ℕ) : Type
   pub lost : IsFirstOutside (length targets) (targets_of targets stone) position
   pub before : (j : ℕ) → j < stone → AreStones (length targets) (targets_of targets j)
 
--- sources are tested first, then targets, then paths; memory is taken behind the first two tests alone
+-- sources are tested first, then targets, then paths; memory is taken behind the first two alone
 abbrev pub IsFault : Shape → GraphFault → Type 0
 IsFault graph (NoStone k) = IsFirstOutside (length graph.targets) graph.sources k
 IsFault graph (NoTarget stone position) =
     AreStones (length graph.targets) graph.sources × IsFirstLost graph.targets stone position
 IsFault graph (Cycle stones) =
-    AreStones (length graph.targets) graph.sources × HaveTargets graph.targets × IsCycle graph.targets stones
+    AreStones (length graph.targets) graph.sources
+    × HaveTargets graph.targets × IsCycle graph.targets stones
 IsFault graph Memory = AreStones (length graph.targets) graph.sources × HaveTargets graph.targets
 
 -- each fault but want of memory shows that there is no graph

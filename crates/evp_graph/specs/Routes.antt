@@ -37,7 +37,8 @@ ComesBefore r s = Precedes (r.source ∷ r.positions) (s.source ∷ s.positions)
 -- the longer route goes on from the other by one position or more
 abbrev pub Extends : Route → Route → Type 0
 Extends longer route =
-    (longer.source ≡ route.source) × (position : ℕ) × (more : List ℕ) × (longer.positions ≡ route.positions ++ position ∷ more)
+    (longer.source ≡ route.source) × (position : ℕ) × (more : List ℕ) ×
+    (longer.positions ≡ route.positions ++ position ∷ more)
 
 -- the list has each route once, in their order, and none behind one that extends it
 pub record ListsRoutes (graph : Shape) (list : List Route) : Type 0 where
@@ -48,10 +49,15 @@ pub record ListsRoutes (graph : Shape) (list : List Route) : Type 0 where
 
 -- the route of a source and its stone that goes this way on
 abbrev pub route_along : ℕ → ℕ → Way → Route
-route_along source stone way = record { source = source; positions = way.positions; stones = stone ∷ way.stones }
+route_along source stone way = record {
+  source = source;
+  positions = way.positions;
+  stones = stone ∷ way.stones;
+}
 
 -- the routes by source, each source's ways depth first.
 -- Without a cycle each way has fewer steps than there are stones, so the bound cuts none
 abbrev pub routes_of : Shape → List Route
 routes_of graph =
-    flat_map (λ e. map (route_along e.0 e.1) (ways graph.targets (length graph.targets) e.1)) (enumerate_from 0 graph.sources)
+    flat_map (λ e. map (route_along e.0 e.1) (ways graph.targets (length graph.targets) e.1))
+    (enumerate_from 0 graph.sources)

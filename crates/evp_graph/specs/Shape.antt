@@ -41,8 +41,10 @@ pub record IsSound (graph : Shape) : Type 0 where
   pub targets : HaveTargets graph.targets
   pub acyclic : IsAcyclic graph.targets
 
--- stones that differ, each a target of the one before, the first a target of the last, the smallest first
+-- stones that differ, each a target of the one before, the first a target of the last, the smallest
+-- first
 abbrev pub IsCycle : List (List ℕ) → List ℕ → Type 0
 IsCycle targets [] = ⊥
 IsCycle targets (first ∷ others) =
-    Leads targets first others first × AllPairs ◌≢◌ (first ∷ others) × All (λ stone. first ≤ stone) others
+    Leads targets first others first
+    × AllPairs ◌≢◌ (first ∷ others) × All (λ stone. first ≤ stone) others

@@ -11,6 +11,7 @@ use std::error::Error;
 use std::fmt;
 
 /// Why sources and targets are no graph: the first of these, in the order sources, targets, cycle.
+/// Numbers of sources, stones and positions count from 0.
 #[derive(Debug, Drop)]
 pub enum GraphFault {
     /// Stone and position of the first target, by stones and positions, that is no stone.

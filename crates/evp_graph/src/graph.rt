@@ -34,8 +34,9 @@ impl Graph {
     /// The graph of these sources, each with its stone, and these stones, each with its targets.
     ///
     /// It is refused with `NoStone` where a source's stone is none, else with `NoTarget` where a
-    /// target is none, else with `Cycle` where a stone reaches itself along targets. It takes time
-    /// linear in stones and targets, and no recursion.
+    /// target is none, else with `Cycle` where a stone reaches itself along targets; with `Memory`
+    /// where memory ran out, which comes behind the first two. It takes time linear in stones and
+    /// targets, and no recursion.
     pub fn new(alloc: Global, sources: &[u16], targets: &[Numbers]) -> Result<Graph, GraphFault>
         requires sources { length sources.now < 2 ^ 16 }
         requires stones { length targets.now < 2 ^ 16 }
@@ -72,6 +73,7 @@ impl Graph {
     }
 }
 
+// Copies of the lists.
 fn copy_all(alloc: Global, lists: &[Numbers]) -> Result<Vec<Numbers>, AllocError>
     ensures { IfOk result (λ copies. copies.items ≡ lists.now) }
 {

@@ -10,7 +10,7 @@ use crate::numbers::Numbers;
 use crate::route::{Route, Routes};
 use std::alloc::{AllocError, Global};
 
-/// The most routes that are listed.
+// The most routes that are listed.
 const MOST: usize = 1024;
 
 /// A route that is still to be listed, and the stone where it ends.
@@ -24,6 +24,7 @@ pub struct Ahead {
 ///
 /// Two positions that name one stone make two routes. `TooMany` comes exactly where there are more
 /// than 1,024, as soon as so many are known: in time and memory linear in what 1,024 routes take.
+/// `Memory` where memory ran out before.
 pub fn routes(alloc: Global, graph: &Graph) -> Result<Routes, RouteFault>
     ensures list { IfOk result (λ routes. routes ≡ routes_of graph.now) }
     ensures each_once { IfOk result (λ routes. ListsRoutes graph.now routes) }
@@ -57,7 +58,7 @@ pub fn routes_are_listed(graph: &Graph)
     let _sound = graph.targets();
 }
 
-/// The routes of one stone, the last source's first.
+// The routes of one stone, the last source's first.
 fn first_routes(alloc: Global, sources: &[u16]) -> Result<Vec<Ahead>, AllocError>
     requires { length sources.now ≤ 1024 }
     ensures { IfOk result (λ ahead. ahead.items ≡ reverse (starts sources.now)) }
@@ -73,7 +74,7 @@ fn first_routes(alloc: Global, sources: &[u16]) -> Result<Vec<Ahead>, AllocError
     Ok(ahead)
 }
 
-/// The route of a source and its stone alone.
+// The route of a source and its stone alone.
 fn first_route(alloc: Global, source: u16, stone: u16) -> Result<Route, AllocError>
     ensures { IfOk result (λ route. route ≡ first_route_of source stone) }
 {
@@ -86,7 +87,7 @@ fn first_route(alloc: Global, source: u16, stone: u16) -> Result<Route, AllocErr
     })
 }
 
-/// Pushes the extensions of a route by the targets of its last stone, the last position's first.
+// Pushes the extensions of a route by the targets of its last stone, the last position's first.
 fn push_extensions(
     alloc: Global,
     ahead: &mut Vec<Ahead>,
@@ -110,7 +111,7 @@ fn push_extensions(
     Ok(())
 }
 
-/// The route that goes on by this position to this stone.
+// The route that goes on by this position to this stone.
 fn extension(alloc: Global, route: &Route, position: u16, stone: u16) -> Result<Route, AllocError>
     ensures { IfOk result (λ longer. longer ≡ extension_of route.now position stone) }
 {

@@ -42,14 +42,15 @@ impl Numbers {
         self.list.as_slice()
     }
 
-    /// A list of the same numbers.
+    /// A list of the same numbers. `AllocError` where there is no memory for it.
     pub fn copy(&self, alloc: Global) -> Result<Numbers, AllocError>
         ensures { IfOk result (λ numbers. numbers ≡ self.now) }
     {
         Ok(Numbers::new(Vec::from_slice(alloc, self.as_slice())?))
     }
 
-    /// These numbers and one more behind them.
+    /// These numbers and one more behind them, as a list of its own. `AllocError` where there is no
+    /// memory for it.
     pub fn with(&self, alloc: Global, number: u16) -> Result<Numbers, AllocError>
         ensures { IfOk result (λ numbers. numbers ≡ self.now ++ number ∷ []) }
     {

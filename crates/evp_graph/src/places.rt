@@ -26,7 +26,7 @@ pub fn check(sources: &[u16], targets: &[Numbers]) -> Result<(), GraphFault>
     Ok(())
 }
 
-/// The place of the first number that is none of so many stones.
+// The place of the first number that is none of so many stones.
 fn first_outside(numbers: &[u16], stones: usize) -> Option<usize>
     ensures { MatchOption result (AreStones stones numbers.now)
         (IsFirstOutside stones numbers.now) }
@@ -39,7 +39,7 @@ fn first_outside(numbers: &[u16], stones: usize) -> Option<usize>
     None
 }
 
-/// The stone and the position of the first target that is no stone.
+// The stone and the position of the first target that is no stone.
 fn first_lost(targets: &[Numbers]) -> Option<(usize, usize)>
     ensures { MatchOption result (HaveTargets targets.now)
         (λ place. IsFirstLost targets.now place.0 place.1) }

@@ -48,7 +48,7 @@ pub fn find_cycle(alloc: Global, targets: &[Numbers]) -> Result<Option<Numbers>,
     Ok(None)
 }
 
-/// Searches all that a new stone reaches, and marks it done. It answers the cycle that it meets.
+// Searches all that a new stone reaches, and marks it done. It answers the cycle that it meets.
 fn search_from(
     alloc: Global,
     targets: &[Numbers],

@@ -41,6 +41,7 @@ pub fn from_smallest(mut stones: Vec<u16>) -> Numbers
     Numbers::new(stones)
 }
 
+// The place of the first least number.
 fn place_of_least(numbers: &[u16]) -> usize
     requires { 0 < length numbers.now }
     ensures within { result < length numbers.now }

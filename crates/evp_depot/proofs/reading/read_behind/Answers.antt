@@ -7,4 +7,6 @@ returns-clause-front g c =
     let buffer = c.args.buffer.now in
     let at = c.args.filled in
     let piece = take (length buffer - at) (drop at buffer) in
-    front_after (g.D.Depot.held c.args.depot.now) c.args.name.now c.read.result buffer piece c.read.new.into _ at (omega (arith, c.requires, length-take (length buffer - at) (drop at buffer), length-drop at buffer)) c.read.auto.into c.read.ensures.in_piece c.read.ensures.bytes
+    front_after (g.D.Depot.held c.args.depot.now) c.args.name.now c.read.result buffer piece c.read.new.into _ at
+    (omega (arith, c.requires, length-take (length buffer - at) (drop at buffer), length-drop at buffer)) c.read.auto.into
+    c.read.ensures.in_piece c.read.ensures.bytes

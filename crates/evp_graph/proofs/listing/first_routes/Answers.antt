@@ -15,5 +15,10 @@ loop-source-init c =
 pub loop-source-preserved : goal.loop-source-preserved
 loop-source-preserved c =
     let k : ℕ = c.loop-source.source - 1 in
-    let route : c.in_ok-route.route ≡ first_route k (get_or c.args.sources.now k 0) = c.in_ok-route.ensures in
-    (omega arith, c.in_ok-push.ensures.items ∙ enumerated_pushed entry c.args.sources.now [] c.loop-source.ahead.items c.loop-source.source k (get_or c.args.sources.now k 0) _ (omega arith) (omega arith) c.loop-source.invariant.1 refl (ap (λ r. record { route = r; stone = get_or c.args.sources.now k 0 }) route))
+    let route : c.in_ok-route.route ≡ first_route k (get_or c.args.sources.now k 0) = c.in_ok-route.ensures in (
+      omega arith,
+      c.in_ok-push.ensures.items
+          ∙ enumerated_pushed entry c.args.sources.now [] c.loop-source.ahead.items c.loop-source.source k (get_or c.args.sources.now k 0) _
+          (omega arith) (omega arith) c.loop-source.invariant.1 refl
+          (ap (λ r. record { route = r; stone = get_or c.args.sources.now k 0 }) route),
+    )

@@ -32,4 +32,9 @@ loop-stone-preserved c =
 pub returns-clause-none : goal.returns-clause-none
 returns-clause-none c =
     let targets = c.args.targets.now in
-    IsAcyclic-from_safe targets (λ a. elim (cases_lt a (length targets)) [ inl lt ↦ c.loop-stone.invariant.0.safe a (c.loop-stone.invariant.1 a (omega arith)) | inr past ↦ IsSafe-no_stone targets a past ])
+    IsAcyclic-from_safe targets
+    (λ a. elim (cases_lt a (length targets)) [
+      | inl lt ↦ c.loop-stone.invariant.0.safe a
+          (c.loop-stone.invariant.1 a (omega arith))
+      | inr past ↦ IsSafe-no_stone targets a past
+    ])

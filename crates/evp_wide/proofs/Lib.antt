@@ -1,0 +1,5 @@
+pub mod Examples
+pub mod Gathers
+pub mod Blocks
+pub mod Turned
+pub mod Wider

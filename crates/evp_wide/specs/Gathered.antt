@@ -1,0 +1,19 @@
+-- Bytes picked from a window of sixteen.
+use lib.Lanes.{zip2}
+use Rattle.std.specs.Prelude.{ℕ, ◌<◌, ◌≤◌, ◌⊎◌, nat_lt, if◌then◌else◌, List, map, slice_index, All, bit_or}
+
+-- a byte of the window, or 0 where the place is none
+abbrev pub picked : List ℕ → ℕ → ℕ
+picked bytes place = if nat_lt place 16 then slice_index bytes place else 0
+
+-- byte k is the byte of the window at the mask's place k, or 0
+abbrev pub gathered : List ℕ → List ℕ → List ℕ
+gathered mask bytes = map (picked bytes) mask
+
+-- each place is one of the window, or 128 or more
+abbrev pub ArePlaces : List ℕ → Type 0
+ArePlaces mask = All (λ place. (place < 16) ⊎ (128 ≤ place)) mask
+
+-- each byte with the constant's bits set too
+abbrev pub with_constant : List ℕ → List ℕ → List ℕ
+with_constant bytes constant = zip2 bit_or bytes constant

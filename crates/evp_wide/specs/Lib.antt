@@ -1,0 +1,4 @@
+pub mod Groups
+pub mod Gathered
+pub mod Elements
+pub mod Masks

@@ -1,0 +1,14 @@
+//! Arrays of numbers moved by lanes of sixteen bytes: swapped, widened, gathered.
+#![tactic(auto)]
+
+mod elements;
+mod lanes;
+mod swap;
+mod widen;
+
+pub use lanes::{Mask, gather, gather_or};
+pub use swap::{swap2, swap4, swap8};
+pub use widen::{widen_signed, widen_unsigned};
+
+#[cfg(test)]
+mod tests;

@@ -1,0 +1,82 @@
+ghost use Rattle.std.specs.Prelude.{◌≡◌, ◌%◌, ◌≤◌, ◌*◌, length};
+
+use super::*;
+use evp_base::Order;
+use std::test::*;
+
+#[test]
+fn groups_are_reversed(rt: HostRuntime) -> Result<(), Fail> {
+    let from = [1, 2, 3, 4, 5, 6, 7, 8];
+    let mut out = [0xff; 8];
+    swap2(&mut out, &from);
+    assert_eq!(rt; out, [2, 1, 4, 3, 6, 5, 8, 7]);
+    swap4(&mut out, &from);
+    assert_eq!(rt; out, [4, 3, 2, 1, 8, 7, 6, 5]);
+    swap8(&mut out, &from);
+    assert_eq!(rt; out, [8, 7, 6, 5, 4, 3, 2, 1]);
+    let mut none = [0u8; 0];
+    swap8(&mut none, &[]);
+    // 37 numbers: blocks of sixteen bytes, and one number behind them
+    let mut long = [0u8; 148];
+    let mut turned = [0xff; 148];
+    for k in 0..37u8 {
+        long[usize::from(k) * 4 + 3] = k + 1;
+    }
+    swap4(&mut turned, &long);
+    for k in 0..37u8 {
+        let at = usize::from(k) * 4;
+        assert_eq!(rt; &turned[at..at + 4], [k + 1, 0, 0, 0].as_slice(), "number {k}");
+    }
+    Ok(())
+}
+
+#[test]
+fn numbers_keep_their_value(rt: HostRuntime) -> Result<(), Fail> {
+    let mut out = [0xff; 4];
+    widen_unsigned(&mut out, 2, Order::Big, &[0xff, 0x01], 1, Order::Big);
+    assert_eq!(rt; out, [0x00, 0xff, 0x00, 0x01]);
+    widen_unsigned(&mut out, 2, Order::Little, &[0xff, 0x01], 1, Order::Big);
+    assert_eq!(rt; out, [0xff, 0x00, 0x01, 0x00]);
+    widen_unsigned(&mut out, 4, Order::Big, &[0x34, 0x12], 2, Order::Little);
+    assert_eq!(rt; out, [0x00, 0x00, 0x12, 0x34]);
+    widen_unsigned(&mut out, 2, Order::Big, &[1, 2, 3, 4], 2, Order::Little);
+    assert_eq!(rt; out, [2, 1, 4, 3]);
+    widen_signed(&mut out, 4, Order::Little, &[0xff, 0xfe], 2, Order::Big);
+    assert_eq!(rt; out, [0xfe, 0xff, 0xff, 0xff]);
+    widen_signed(&mut out, 2, Order::Big, &[0x80, 0x7f], 1, Order::Big);
+    assert_eq!(rt; out, [0xff, 0x80, 0x00, 0x7f]);
+    let mut wide = [0xff; 160];
+    let mut from = [0u8; 40];
+    for k in 0..20u8 {
+        from[usize::from(k) * 2] = k;
+        from[usize::from(k) * 2 + 1] = 0x80;
+    }
+    widen_unsigned(&mut wide, 8, Order::Big, &from, 2, Order::Little);
+    for k in 0..20u8 {
+        let at = usize::from(k) * 8;
+        assert_eq!(rt; &wide[at..at + 8], [0, 0, 0, 0, 0, 0, 0x80, k].as_slice(), "number {k}");
+    }
+    Ok(())
+}
+
+#[test]
+fn a_mask_picks_from_its_window(rt: HostRuntime) -> Result<(), Fail> {
+    let from = [
+        0, 1, 2, 3, 4, 5, 6, 7, 8, 9, 10, 11, 12, 13, 14, 15, 16, 17, 18, 19,
+    ];
+    let mask = Mask {
+        places: [3, 2, 1, 0, 128, 4, 255, 15, 7, 6, 5, 4, 128, 128, 9, 8],
+    };
+    let mut out = [0xff; 20];
+    gather(&mut out, 2, &from, 4, &mask);
+    assert_eq!(rt;
+        out,
+        [
+            0xff, 0xff, 7, 6, 5, 4, 0, 8, 0, 19, 11, 10, 9, 8, 0, 0, 13, 12, 0xff, 0xff,
+        ]
+    );
+    gather_or(&mut out, 4, &from, 0, &mask, &[0x40; 16]);
+    assert_eq!(rt; &out[4..8], [0x43, 0x42, 0x41, 0x40].as_slice());
+    assert_eq!(rt; out[8], 0x40);
+    Ok(())
+}

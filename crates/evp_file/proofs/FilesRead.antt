@@ -20,7 +20,7 @@ use Rattle.evp_file.specs.Reading.{frame_at, after_frame, frames_from, has_magic
 use Rattle.evp_file.specs.Steps.{◌>>=◌, only_if}
 use Rattle.evp_file.proofs.FrameAgain.{frame_size, frame_again, end_again}
 use Rattle.evp_file.proofs.FrameSound.{IsRead, read_frame}
-use Rattle.evp_file.proofs.Tests.{bind_ok, only_if_ok, ok_is}
+use Rattle.evp_file.proofs.PassedSteps.{bind_ok, only_if_ok, ok_is}
 
 -- ---- frames that are read
 

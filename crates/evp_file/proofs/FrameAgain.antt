@@ -35,7 +35,7 @@ use Rattle.evp_file.specs.Reading.{part, number_part, described, own_frame, know
 use Rattle.evp_file.specs.Steps.{◌>>=◌, only_if}
 use Rattle.evp_file.proofs.DescriptionLengths.{short_description}
 use Rattle.evp_file.proofs.FrameParts.{part_again, number_part_again, front_stands}
-use Rattle.evp_file.proofs.Tests.{IsFirst, first_found}
+use Rattle.evp_file.proofs.PassedSteps.{IsFirst, first_found}
 
 -- a step that is passed
 then_ok : {A B : Type 0} (r : Result A FileFault) (x : A) (f : A → Result B FileFault) (y : Result B FileFault) → r ≡ Ok x → f x ≡ y → (r >>= f) ≡ y

@@ -17,7 +17,7 @@ use Rattle.evp_file.specs.declared.fault.FileFault.{FileFault}
 use Rattle.evp_file.specs.declared.fault.FileFault.TheVariants.{Short}
 use Rattle.evp_file.specs.Reading.{part, number_part}
 use Rattle.evp_file.specs.Steps.{◌>>=◌}
-use Rattle.evp_file.proofs.Tests.{bind_ok, not_refused, ok_is}
+use Rattle.evp_file.proofs.PassedSteps.{bind_ok, not_refused, ok_is}
 
 -- a part that is read is inside the bytes, and is what stands there
 pub part_read : (at : ℕ) (bytes : List ℕ) (place size : ℕ) (text : List ℕ) → part at bytes place size ≡ Ok text → (place + size ≤ length bytes) × (bytes_at place size bytes ≡ text)

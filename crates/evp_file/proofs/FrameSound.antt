@@ -28,7 +28,7 @@ use Rattle.evp_file.specs.Frames.{sized, id_in, frame_bytes, IsFirstKnown, IsAdm
 use Rattle.evp_file.specs.Reading.{part, number_part, described, own_frame, known_number, known_frame, unbroken, record_frame, end_frame, Letter, format_letter, id_letter, record_letter, end_letter, no_letter, letter_of, goes_on, frame_by, frame_at}
 use Rattle.evp_file.specs.Steps.{◌>>=◌, only_if}
 use Rattle.evp_file.proofs.FrameParts.{part_read, part_stands, part_length, number_part_stands, letter_stands}
-use Rattle.evp_file.proofs.Tests.{bind_ok, only_if_ok, ok_or_some, ok_is, IsFirst, found_first}
+use Rattle.evp_file.proofs.PassedSteps.{bind_ok, only_if_ok, ok_or_some, ok_is, IsFirst, found_first}
 
 -- an admissible frame of this size begins the bytes
 pub record Begins (known : List KnownFormat) (limit : ℕ) (file : RecordFile) (bytes : List ℕ) (frame : Frame) (size : ℕ) : Type 0 where

@@ -7,5 +7,6 @@ pub mod FrameParts
 pub mod FrameSound
 pub mod Lists
 pub mod ReadBack
-pub mod Tests
+pub mod PassedSteps
+pub mod Wholes
 pub mod WrittenOrder

@@ -15,7 +15,8 @@ use Rattle.evp_file.specs.declared.frame.Frame.{Frame}
 use Rattle.evp_file.specs.declared.frame.Frame.TheVariants.{Format, Record}
 use Rattle.evp_file.specs.File.{file_with, no_frames}
 use Rattle.evp_file.specs.Frames.{IsFirstKnown, IsFormat, IsItem, LeadTo}
-use Rattle.evp_file.specs.Laws.{HasId, IsFormatOf, IsWithin, FilesReadBack}
+use Rattle.evp_file.specs.Laws.{HasId, FilesReadBack}
+use Rattle.evp_file.specs.Whole.{IsFormatOf, IsRecordOf, IsWhole, IsWithin}
 use Rattle.evp_file.specs.Writing.{frames_of, written}
 use Rattle.evp_file.proofs.FilesRead.{file_again}
 use Rattle.evp_file.proofs.Lists.{Each, each_of_all}
@@ -67,13 +68,18 @@ lead_formats known limit done (format ∷ formats) frames whole few are rest =
     let moved = subst (λ (all : List FileFormat). LeadTo known limit (file_with all []) frames whole) (sym (append_assoc done (format ∷ []) formats)) rest in
     ((omega (arith, few), are.0), lead_formats known limit (done ++ format ∷ []) formats frames whole (omega (arith, few, long)) are.1 moved)
 
+items_within : (known : List KnownFormat) (limit : ℕ) (formats : List FileFormat) (items : List FileItem) → Each (IsRecordOf known formats) items → Each (IsWithin limit) items → Each (IsItem known limit formats) items
+items_within known limit formats [] are within = tt
+items_within known limit formats (item ∷ items) are within =
+    (record { layout = are.0.layout; there = are.0.there; short = within.0; viewed = are.0.viewed }, items_within known limit formats items are.1 within.1)
+
 pub read_back_law : FilesReadBack
-read_back_law known limit file small ids differ within =
+read_back_law known limit file small ids differ whole within =
     let formats = file.formats in
     let items = file.items in
-    let few_items = within.few_items in
-    let few_formats = within.few_formats in
-    let behind = lead_items known limit formats [] items (omega (arith, few_items)) (each_of_all (IsItem known limit formats) items within.each_item) in
+    let few_items = whole.few_items in
+    let few_formats = whole.few_formats in
+    let behind = lead_items known limit formats [] items (omega (arith, few_items)) (items_within known limit formats items (each_of_all (IsRecordOf known formats) items whole.each_item) (each_of_all (IsWithin limit) items within)) in
     let lead = lead_formats known limit [] formats (map Record items) (file_with formats items) (omega (arith, few_formats))
-    (first_formats known formats ids differ (each_of_all (IsFormatOf known) formats within.each_format)) behind in
+    (first_formats known formats ids differ (each_of_all (IsFormatOf known) formats whole.each_format)) behind in
     file_again known limit (written known file) file small (record { frames = frames_of file; admissible = lead; spelled = refl })

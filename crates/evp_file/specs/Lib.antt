@@ -4,4 +4,6 @@ pub mod File
 pub mod Frames
 pub mod Reading
 pub mod Writing
+pub mod Whole
+pub mod FaultText
 pub mod Laws

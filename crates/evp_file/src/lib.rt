@@ -16,3 +16,6 @@ pub use file::{
 pub use laws::{files_are_exact, files_read_back};
 pub use reading::read_file;
 pub use writing::write_file;
+
+#[cfg(test)]
+mod tests;

@@ -1,9 +1,10 @@
 //! Reading a record file from left to right.
 
-ghost use Rattle.std.specs.Prelude.{◌≡◌, ◌+◌, ◌^◌, ◌<◌, ◌≤◌, length, drop, OnOk};
+ghost use Rattle.std.specs.Prelude.{◌≡◌, ◌+◌, ◌^◌, ◌<◌, ◌≤◌, length, drop, All, IfOk, OnOk};
 ghost use Rattle.evp_file.specs.File.{no_frames, with_frame};
 ghost use Rattle.evp_file.specs.Reading.{frames_from, file_of, has_magic};
 ghost use Rattle.evp_file.specs.Steps.{Gives};
+ghost use Rattle.evp_file.specs.Whole.{IsWhole, IsWithin};
 
 use crate::frame::{Frame, Reader};
 use crate::{FileFault, FileFormats, FileItems, KnownFormat, RecordFile};
@@ -13,7 +14,6 @@ use std::alloc::Global;
 /// The file that the bytes are, or their first fault from left to right (`docs/FORMATS.md`, "Record
 /// files"). Identifiers name the known formats; of two with one identifier the first is meant. A
 /// record has at most `limit` bytes. Each record is checked, and its bytes are copied once.
-#[tactic(auto, unfolding(crate::specs::Reading::file_of))]
 pub fn read_file(
     alloc: Global,
     bytes: &[u8],
@@ -22,12 +22,25 @@ pub fn read_file(
 ) -> Result<RecordFile, FileFault>
     requires short { length bytes.now < 2 ^ 31 }
     requires few { length known.now ≤ 65536 }
-    ensures { Gives (λ file. file) result (file_of known.now limit bytes.now) }
+    ensures exact { Gives (λ file. file) result (file_of known.now limit bytes.now) }
+    // Formats and records are within the limits, and each record has a value.
+    ensures whole { IfOk result (λ file. IsWhole known.now file) }
+    ensures limited { IfOk result (λ file. All (IsWithin limit) file.items) }
+{
+    read_all(alloc, bytes, &Reader { known, limit })
+}
+
+// The file that the bytes are.
+#[tactic(auto, unfolding(crate::specs::Reading::file_of))]
+fn read_all(alloc: Global, bytes: &[u8], reader: &Reader) -> Result<RecordFile, FileFault>
+    requires short { length bytes.now < 2 ^ 31 }
+    requires few { length reader.now.known.now ≤ 65536 }
+    ensures { Gives (λ file. file) result (file_of reader.now.known.now reader.now.limit bytes.now) }
 {
     if !has_magic(bytes) {
         return Err(FileFault::Magic);
     }
-    frames_from(alloc, &Reader { known, limit }, &bytes[4..])
+    frames_from(alloc, reader, &bytes[4..])
 }
 
 // Whether the bytes begin with the magic.

@@ -1,11 +1,12 @@
 //! Writing a record file.
 
-ghost use Rattle.std.specs.Prelude.{◌≡◌, ◌++◌, ◌*◌, ◌^◌, ◌<◌, ◌≤◌, length, All, IfOk, OnOk, IsTrue, codes};
+ghost use Rattle.std.specs.Prelude.{◌≡◌, ◌++◌, ◌-◌, ◌*◌, ◌^◌, ◌<◌, ◌≤◌, length, All, IfOk, OnOk, IsTrue, codes};
 ghost use Rattle.std.specs.List.{flat_map};
 ghost use Rattle.evp_base.specs.Numbers.{is_width};
 ghost use Rattle.evp_format.specs.Describing.{describe, described_number};
 ghost use Rattle.evp_file.specs.Frames.{sized, format_bytes, item_bytes};
-ghost use Rattle.evp_file.specs.Writing.{written, IsNumbered, IsShort};
+ghost use Rattle.evp_file.specs.Whole.{IsFormatOf, IsWhole, IsWithin};
+ghost use Rattle.evp_file.specs.Writing.{written};
 
 use crate::{FileFormat, FileItem, KnownFormat, RecordFile};
 use evp_base::{Memory, Order, put_number};
@@ -13,14 +14,14 @@ use evp_format::{Format, write_description};
 use std::alloc::Global;
 
 /// The file as bytes: its formats first, then its records, then the end. A format of the file is
-/// written by its description, a known one by its identifier.
+/// written by its description, a known one by its identifier. The file is within the limits, and its
+/// records have values.
 pub fn write_file(
     alloc: Global,
     file: &RecordFile,
     known: &[KnownFormat],
 ) -> Result<Vec<u8>, Memory>
-    requires numbered { All (IsNumbered known.now) file.now.formats }
-    requires short { All IsShort file.now.items }
+    requires { IsWhole known.now file.now }
     ensures { IfOk result (λ bytes. bytes.items ≡ written known.now file.now) }
 {
     let mut out = Vec::new(alloc);
@@ -38,7 +39,7 @@ fn put_formats(
     known: &[KnownFormat],
     formats: &[FileFormat],
 ) -> Result<(), Memory>
-    requires { All (IsNumbered known.now) formats.now }
+    requires { All (IsFormatOf known.now) formats.now }
     ensures { OnOk result (out.new.items ≡ out.old.items ++ flat_map (format_bytes known.now) formats.now) }
 {
     for format in formats {
@@ -53,7 +54,7 @@ fn put_format(
     known: &[KnownFormat],
     format: &FileFormat,
 ) -> Result<(), Memory>
-    requires { IsNumbered known.now format.now }
+    requires { IsFormatOf known.now format.now }
     ensures { OnOk result (out.new.items ≡ out.old.items ++ format_bytes known.now format.now) }
 {
     match format {
@@ -84,7 +85,7 @@ fn put_known(out: &mut Vec<u8>, one: &KnownFormat) -> Result<(), Memory>
 
 // The frames of the records, in their order.
 fn put_items(out: &mut Vec<u8>, items: &[FileItem]) -> Result<(), Memory>
-    requires { All IsShort items.now }
+    requires { All (IsWithin (2 ^ 32 - 1)) items.now }
     ensures { OnOk result (out.new.items ≡ out.old.items ++ flat_map item_bytes items.now) }
 {
     for item in items {
@@ -94,7 +95,7 @@ fn put_items(out: &mut Vec<u8>, items: &[FileItem]) -> Result<(), Memory>
 }
 
 fn put_item(out: &mut Vec<u8>, item: &FileItem) -> Result<(), Memory>
-    requires { IsShort item.now }
+    requires { IsWithin (2 ^ 32 - 1) item.now }
     ensures { OnOk result (out.new.items ≡ out.old.items ++ item_bytes item.now) }
 {
     out.push(b'R')?;

@@ -1,5 +1,6 @@
 -- Parts of a frame stand in it, and what stands there is read.
-use Rattle.std.proofs.Common.{◌≡◌, ℕ, zero, suc, ◌+◌, ◌*◌, ◌^◌, ◌<◌, ◌≤◌, Bool, true, false, cond, List, [], ◌∷◌, ◌++◌, length, drop, Some, Result, Ok, Err, IsTrue, refl, sym, ap, subst, ◌∙◌, append_assoc, length-append, arith}
+use Rattle.std.proofs.Common.{◌≡◌, ℕ, zero, suc, ◌+◌, ◌*◌, ◌^◌, ◌<◌, ◌≤◌, Bool, true, false, cond, List, [], ◌∷◌, ◌++◌, length, drop}
+use Rattle.std.proofs.Common.{Some, Result, Ok, Err, IsTrue, refl, sym, ap, subst, ◌∙◌, append_assoc, length-append, arith}
 use Rattle.std.specs.Prelude.{nat_lt, slice_get}
 use Rattle.std.proofs.lemmas.Bool.{ltb-false, le-ltb}
 use Rattle.std.proofs.lemmas.List.{drop_at, length-drop, length-take}
@@ -20,13 +21,15 @@ use Rattle.evp_file.specs.Steps.{◌>>=◌}
 use Rattle.evp_file.proofs.PassedSteps.{bind_ok, not_refused, ok_is}
 
 -- a part that is read is inside the bytes, and is what stands there
-pub part_read : (at : ℕ) (bytes : List ℕ) (place size : ℕ) (text : List ℕ) → part at bytes place size ≡ Ok text → (place + size ≤ length bytes) × (bytes_at place size bytes ≡ text)
+pub part_read : (at : ℕ) (bytes : List ℕ) (place size : ℕ) (text : List ℕ) → part at bytes place size ≡ Ok text
+    → (place + size ≤ length bytes) × (bytes_at place size bytes ≡ text)
 unfolding part
 part_read at bytes place size text e =
     let read = not_refused (nat_lt (length bytes) (place + size)) (Short at) (Ok (bytes_at place size bytes)) text e in
     (ltb-false (length bytes) (place + size) read.0, ok_is (bytes_at place size bytes) text read.1)
 
-pub part_stands : (at : ℕ) (bytes : List ℕ) (place size : ℕ) (text : List ℕ) → part at bytes place size ≡ Ok text → Stands bytes place text (place + size)
+pub part_stands : (at : ℕ) (bytes : List ℕ) (place size : ℕ) (text : List ℕ) → part at bytes place size ≡ Ok text
+    → Stands bytes place text (place + size)
 part_stands at bytes place size text e =
     let read = part_read at bytes place size text e in
     subst (λ (t : List ℕ). Stands bytes place t (place + size)) read.1 (stands_cut bytes place size read.0)
@@ -37,16 +40,19 @@ part_length at bytes place size text e =
     let next = stands.next_is in
     omega (arith, next)
 
-pub part_again : (at : ℕ) (bytes : List ℕ) (place : ℕ) (text : List ℕ) (next size : ℕ) → Stands bytes place text next → length text ≡ size → part at bytes place size ≡ Ok text
+pub part_again : (at : ℕ) (bytes : List ℕ) (place : ℕ) (text : List ℕ) (next size : ℕ) → Stands bytes place text next → length text ≡ size
+    → part at bytes place size ≡ Ok text
 unfolding part
 part_again at bytes place text next size stands long =
     let end = stands.next_is in
     let inside = stands.within in
     let whole : nat_lt (length bytes) (place + size) ≡ false = le-ltb (length bytes) (place + size) (omega (arith, end, inside, long)) in
-    ap (λ (b : Bool). cond b (Err (Short at)) (Ok (bytes_at place size bytes))) whole ∙ ap (λ (t : List ℕ). Ok t) (cut_stands bytes place text next size stands long)
+    ap (λ (b : Bool). cond b (Err (Short at)) (Ok (bytes_at place size bytes))) whole
+    ∙ ap (λ (t : List ℕ). Ok t) (cut_stands bytes place text next size stands long)
 
 -- a number stands there as it is described
-pub number_part_stands : (at : ℕ) (bytes : List ℕ) (place size n : ℕ) → IsTrue (is_width size) → AreBytes bytes → number_part at bytes place size ≡ Ok n
+pub number_part_stands : (at : ℕ) (bytes : List ℕ) (place size n : ℕ) → IsTrue (is_width size) → AreBytes bytes
+    → number_part at bytes place size ≡ Ok n
     → Stands bytes place (described_number size n) (place + size)
 unfolding number_part number_at
 number_part_stands at bytes place size n wide are e =
@@ -59,7 +65,8 @@ number_part_stands at bytes place size n wide are e =
     ap (λ (b : Bool). cond b (Err (ShortLayout place)) (pair (magnitude Big (bytes_at place size bytes)))) whole ∙ ap pair value in
     (number_stands size bytes place (n, place + size) wide are same).0
 
-pub number_part_again : (at : ℕ) (bytes : List ℕ) (place size n next : ℕ) → n < 2 ^ (8 * size) → Stands bytes place (described_number size n) next → number_part at bytes place size ≡ Ok n
+pub number_part_again : (at : ℕ) (bytes : List ℕ) (place size n next : ℕ) → n < 2 ^ (8 * size)
+    → Stands bytes place (described_number size n) next → number_part at bytes place size ≡ Ok n
 unfolding number_part number_at
 number_part_again at bytes place size n next small stands =
     let again = number_again size bytes place n next small stands in

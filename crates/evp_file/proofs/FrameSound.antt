@@ -1,5 +1,6 @@
 -- A frame that is read is admissible, and stands at the front.
-use Rattle.std.proofs.Common.{◌≡◌, ℕ, zero, suc, ◌+◌, ◌<◌, ◌≤◌, Bool, true, false, cond, List, [], ◌∷◌, ◌++◌, length, drop, codes, Option, Some, None, Result, Ok, Err, IsOk, refl, sym, ap, subst, ◌∙◌, arith}
+use Rattle.std.proofs.Common.{◌≡◌, ℕ, zero, suc, ◌+◌, ◌<◌, ◌≤◌, Bool, true, false, cond, List, [], ◌∷◌, ◌++◌, length, drop, codes, Option}
+use Rattle.std.proofs.Common.{Some, None, Result, Ok, Err, IsOk, refl, sym, ap, subst, ◌∙◌, arith}
 use Rattle.std.specs.Prelude.{nat_eq, nat_lt, nat_le, slice_get}
 use Rattle.std.specs.Option.{ok_or}
 use Rattle.std.proofs.lemmas.Bool.{eqb-true, ltb-true, leb-true}
@@ -25,7 +26,9 @@ use Rattle.evp_file.specs.declared.frame.Frame.{Frame}
 use Rattle.evp_file.specs.declared.frame.Frame.TheVariants.{Format, Record}
 use Rattle.evp_file.specs.File.{item_of, layout_in}
 use Rattle.evp_file.specs.Frames.{sized, id_in, frame_bytes, IsFirstKnown, IsAdmissible}
-use Rattle.evp_file.specs.Reading.{part, number_part, described, own_frame, known_number, known_frame, unbroken, record_frame, end_frame, Letter, format_letter, id_letter, record_letter, end_letter, no_letter, letter_of, goes_on, frame_by, frame_at}
+use Rattle.evp_file.specs.Reading.{part, number_part, described, own_frame, known_number, known_frame, unbroken, record_frame, end_frame}
+use Rattle.evp_file.specs.Reading.{Letter, format_letter, id_letter, record_letter, end_letter, no_letter, letter_of, goes_on, frame_by}
+use Rattle.evp_file.specs.Reading.{frame_at}
 use Rattle.evp_file.specs.Steps.{◌>>=◌, only_if}
 use Rattle.evp_file.proofs.FrameParts.{part_read, part_stands, part_length, number_part_stands, letter_stands}
 use Rattle.evp_file.proofs.PassedSteps.{bind_ok, only_if_ok, ok_or_some, ok_is, IsFirst, found_first}
@@ -44,14 +47,16 @@ layout_read : (at : ℕ) (r : Result Layout LayoutFault) (layout : Layout) → d
 layout_read at (Ok one) layout e = ap (λ (l : Layout). Ok l) (ok_is one layout e)
 layout_read at (Err fault) layout e = absurd (cc)
 
-own_begins : (known : List KnownFormat) (limit : ℕ) (file : RecordFile) (at : ℕ) (bytes : List ℕ) (read : Frame × ℕ) → AreBytes bytes → slice_get bytes 0 ≡ Some 70
+own_begins : (known : List KnownFormat) (limit : ℕ) (file : RecordFile) (at : ℕ) (bytes : List ℕ) (read : Frame × ℕ) → AreBytes bytes
+    → slice_get bytes 0 ≡ Some 70
     → own_frame file at bytes ≡ Ok read → BeginsWith known limit file bytes read
 unfolding own_frame
 own_begins known limit file at bytes read are letter e =
     let with_layout : ℕ → Layout → Result (Frame × ℕ) FileFault = λ size layout. Ok (Format (Own layout), 5 + size) in
     let with_text : ℕ → List ℕ → Result (Frame × ℕ) FileFault = λ size text. described at (layout_of text) >>= with_layout size in
     let with_room : ℕ → Unit {0} → Result (Frame × ℕ) FileFault = λ size room. part at bytes 5 size >>= with_text size in
-    let with_size : ℕ → Result (Frame × ℕ) FileFault = λ size. only_if (nat_lt (length file.formats) 1024) (Formats at) >>= with_room size in
+    let with_size : ℕ → Result (Frame × ℕ) FileFault = λ size. only_if (nat_lt (length file.formats) 1024) (Formats at)
+    >>= with_room size in
     let size = bind_ok (number_part at bytes 1 4) with_size read e in
     let room = bind_ok (only_if (nat_lt (length file.formats) 1024) (Formats at)) (with_room size.0) read size.2 in
     let text = bind_ok (part at bytes 5 size.0) (with_text size.0) read room.2 in
@@ -69,37 +74,45 @@ own_begins known limit file at bytes read are letter e =
     let behind = stands_join bytes 1 (described_number 4 size.0) 5 text.0 (5 + size.0) number body in
     let whole = stands_join bytes 0 (codes "F") 1 (described_number 4 size.0 ++ text.0) (5 + size.0) front behind in
     let spelled : codes "F" ++ (described_number 4 size.0 ++ text.0) ≡ frame_bytes known (Format (Own layout.0)) =
-    ap (λ (n : ℕ). codes "F" ++ (described_number 4 n ++ text.0)) long ∙ ap (λ (t : List ℕ). codes "F" ++ (described_number 4 (length (describe layout.0)) ++ t)) is in
+    ap (λ (n : ℕ). codes "F" ++ (described_number 4 n ++ text.0)) long
+    ∙ ap (λ (t : List ℕ). codes "F" ++ (described_number 4 (length (describe layout.0)) ++ t)) is in
     subst (BeginsWith known limit file bytes) (ok_is (Format (Own layout.0), 5 + size.0) read layout.2)
     (record { admissible = (few, laid); stands = subst (λ (t : List ℕ). Stands bytes 0 t (5 + size.0)) spelled whole })
 
 -- ---- a format by its identifier
 
-first_known : (known : List KnownFormat) (id : List ℕ) (k : ℕ) → length id ≡ 32 → known_number known id ≡ Some k → IsFirstKnown known k × (id_in (slice_get known k) ≡ id)
+first_known : (known : List KnownFormat) (id : List ℕ) (k : ℕ) → length id ≡ 32 → known_number known id ≡ Some k → IsFirstKnown known k
+    × (id_in (slice_get known k) ≡ id)
 first_known known id k long e =
     let at = found_first (λ (one : KnownFormat). bytes_equal one.id.0 id) known 0 k e in
     let same : k ≡ at.0 = let is = at.1 in omega (arith, is) in
     let first = at.2 in
     let its : first.one.id.0 ≡ id = bytes_equal-true first.one.id.0 id first.passes in
-    let differ : (j : ℕ) (other : KnownFormat) → j < at.0 → slice_get known j ≡ Some other → other.id.0 ≡ first.one.id.0 → ⊥ = λ j other below there equal.
+    let differ : (j : ℕ) (other : KnownFormat) → j < at.0 → slice_get known j ≡ Some other → other.id.0 ≡ first.one.id.0
+    → ⊥ = λ j other below there equal.
     let fails = first.before j other below there in
     let passes : bytes_equal other.id.0 id ≡ true = ap (λ (text : List ℕ). bytes_equal text id) (equal ∙ its) ∙ bytes_equal-same id in
     let wrong : true ≡ false = sym passes ∙ fails in cc in
-    let is_first : IsFirstKnown known at.0 = record { one = first.one; there = first.there; whole = ap length its ∙ long; before = differ } in
+    let is_first : IsFirstKnown known at.0 = record
+    { one = first.one; there = first.there; whole = ap length its ∙ long; before = differ } in
     subst (λ (n : ℕ). IsFirstKnown known n × (id_in (slice_get known n) ≡ id)) (sym same) (is_first, ap id_in first.there ∙ its)
 
-known_begins : (known : List KnownFormat) (limit : ℕ) (file : RecordFile) (at : ℕ) (bytes : List ℕ) (read : Frame × ℕ) → slice_get bytes 0 ≡ Some 73
+known_begins : (known : List KnownFormat) (limit : ℕ) (file : RecordFile) (at : ℕ) (bytes : List ℕ) (read : Frame × ℕ) → slice_get bytes 0
+    ≡ Some 73
     → known_frame known file at bytes ≡ Ok read → BeginsWith known limit file bytes read
 unfolding known_frame
 known_begins known limit file at bytes read letter e =
     let with_number : ℕ → Result (Frame × ℕ) FileFault = λ number. Ok (Format (Known number), 33) in
-    let with_room : List ℕ → Unit {0} → Result (Frame × ℕ) FileFault = λ id room. ok_or (known_number known id) (UnknownId at) >>= with_number in
-    let with_id : List ℕ → Result (Frame × ℕ) FileFault = λ id. only_if (nat_lt (length file.formats) 1024) (Formats at) >>= with_room id in
+    let with_room : List ℕ → Unit {0} → Result (Frame × ℕ) FileFault = λ id room. ok_or (known_number known id) (UnknownId at)
+    >>= with_number in
+    let with_id : List ℕ → Result (Frame × ℕ) FileFault = λ id. only_if (nat_lt (length file.formats) 1024) (Formats at)
+    >>= with_room id in
     let id = bind_ok (part at bytes 1 32) with_id read e in
     let room = bind_ok (only_if (nat_lt (length file.formats) 1024) (Formats at)) (with_room id.0) read id.2 in
     let number = bind_ok (ok_or (known_number known id.0) (UnknownId at)) with_number read room.2 in
     let few = ltb-true (length file.formats) 1024 (only_if_ok (nat_lt (length file.formats) 1024) (Formats at) room.0 room.1) in
-    let first = first_known known id.0 number.0 (part_length at bytes 1 32 id.0 id.1) (ok_or_some (known_number known id.0) (UnknownId at) number.0 number.1) in
+    let first = first_known known id.0 number.0 (part_length at bytes 1 32 id.0 id.1)
+    (ok_or_some (known_number known id.0) (UnknownId at) number.0 number.1) in
     let whole = stands_join bytes 0 (codes "I") 1 id.0 33 (letter_stands bytes 73 letter) (part_stands at bytes 1 32 id.0 id.1) in
     subst (BeginsWith known limit file bytes) (ok_is (Format (Known number.0), 33) read number.2)
     (record { admissible = (few, first.0); stands = subst (λ (t : List ℕ). Stands bytes 0 (codes "I" ++ t) 33) (sym first.1) whole })
@@ -110,16 +123,23 @@ value_read : (at : ℕ) (layout : Layout) (r : Result Datum Broken) (x : Unit {0
 value_read at layout (Ok value) x e = refl
 value_read at layout (Err fault) x e = absurd (cc)
 
-record_begins : (known : List KnownFormat) (limit : ℕ) (file : RecordFile) (at : ℕ) (bytes : List ℕ) (read : Frame × ℕ) → AreBytes bytes → slice_get bytes 0 ≡ Some 82
+record_begins : (known : List KnownFormat) (limit : ℕ) (file : RecordFile) (at : ℕ) (bytes : List ℕ) (read : Frame × ℕ) → AreBytes bytes
+    → slice_get bytes 0 ≡ Some 82
     → record_frame known limit file at bytes ≡ Ok read → BeginsWith known limit file bytes read
 unfolding record_frame
 record_begins known limit file at bytes read are letter e =
-    let with_value : ℕ → ℕ → List ℕ → Unit {0} → Result (Frame × ℕ) FileFault = λ format size text whole. Ok (Record (item_of format text), 7 + size) in
-    let with_text : ℕ → ℕ → Layout → List ℕ → Result (Frame × ℕ) FileFault = λ format size layout text. unbroken at layout (view layout text) >>= with_value format size text in
-    let with_short : ℕ → ℕ → Layout → Unit {0} → Result (Frame × ℕ) FileFault = λ format size layout short. part at bytes 7 size >>= with_text format size layout in
-    let with_layout : ℕ → ℕ → Layout → Result (Frame × ℕ) FileFault = λ format size layout. only_if (nat_le size limit) (TooLarge at) >>= with_short format size layout in
-    let with_room : ℕ → ℕ → Unit {0} → Result (Frame × ℕ) FileFault = λ format size room. ok_or (layout_in known file.formats format) (FormatNumber at) >>= with_layout format size in
-    let with_size : ℕ → ℕ → Result (Frame × ℕ) FileFault = λ format size. only_if (nat_lt (length file.items) 131072) (Records at) >>= with_room format size in
+    let with_value : ℕ → ℕ → List ℕ → Unit {0} → Result (Frame × ℕ) FileFault = λ format size text whole. Ok
+    (Record (item_of format text), 7 + size) in
+    let with_text : ℕ → ℕ → Layout → List ℕ → Result (Frame × ℕ) FileFault = λ format size layout text. unbroken at layout
+    (view layout text) >>= with_value format size text in
+    let with_short : ℕ → ℕ → Layout → Unit {0} → Result (Frame × ℕ) FileFault = λ format size layout short. part at bytes 7 size
+    >>= with_text format size layout in
+    let with_layout : ℕ → ℕ → Layout → Result (Frame × ℕ) FileFault = λ format size layout. only_if (nat_le size limit) (TooLarge at)
+    >>= with_short format size layout in
+    let with_room : ℕ → ℕ → Unit {0} → Result (Frame × ℕ) FileFault = λ format size room. ok_or (layout_in known file.formats format)
+    (FormatNumber at) >>= with_layout format size in
+    let with_size : ℕ → ℕ → Result (Frame × ℕ) FileFault = λ format size. only_if (nat_lt (length file.items) 131072) (Records at)
+    >>= with_room format size in
     let with_format : ℕ → Result (Frame × ℕ) FileFault = λ format. number_part at bytes 3 4 >>= with_size format in
     let format = bind_ok (number_part at bytes 1 2) with_format read e in
     let size = bind_ok (number_part at bytes 3 4) (with_size format.0) read format.2 in
@@ -143,7 +163,16 @@ record_begins known limit file at bytes read are letter e =
     let whole = stands_join bytes 0 (codes "R") 1 (described_number 2 format.0 ++ sized text.0) (7 + size.0) front numbered in
     subst (BeginsWith known limit file bytes) (ok_is (Record (item_of format.0 text.0), 7 + size.0) read value.2)
     (record {
-      admissible = (few, record { layout = layout.0; there = there; short = omega (arith, within, long); viewed = value_read at layout.0 (view layout.0 text.0) value.0 value.1 });
+      admissible = (
+        few,
+        record {
+          layout = layout.0;
+          there = there;
+          short = omega (arith, within, long);
+          viewed = value_read at layout.0
+              (view layout.0 text.0) value.0 value.1;
+        },
+      );
       stands = whole;
     })
 
@@ -172,32 +201,43 @@ abbrev pub IsRead : List KnownFormat → ℕ → RecordFile → List ℕ → Opt
 IsRead known limit file bytes None = bytes ≡ codes "E"
 IsRead known limit file bytes (Some (frame, size)) = Begins known limit file bytes frame size
 
-frame_read : (known : List KnownFormat) (limit : ℕ) (file : RecordFile) (bytes : List ℕ) (r : Result (Frame × ℕ) FileFault) (read : Option (Frame × ℕ)) → goes_on r ≡ Ok read
+frame_read : (known : List KnownFormat) (limit : ℕ) (file : RecordFile) (bytes : List ℕ) (r : Result (Frame × ℕ) FileFault)
+    (read : Option (Frame × ℕ)) → goes_on r ≡ Ok read
     → ((frame : Frame × ℕ) → r ≡ Ok frame → BeginsWith known limit file bytes frame) → IsRead known limit file bytes read
-frame_read known limit file bytes (Ok (frame, size)) read e begins = subst (IsRead known limit file bytes) (ok_is (Some (frame, size)) read e) (begins (frame, size) refl)
+frame_read known limit file bytes (Ok (frame, size)) read e begins = subst (IsRead known limit file bytes)
+    (ok_is (Some (frame, size)) read e) (begins (frame, size) refl)
 frame_read known limit file bytes (Err fault) read e begins = absurd (cc)
 
-end_read : (known : List KnownFormat) (limit : ℕ) (file : RecordFile) (at : ℕ) (bytes : List ℕ) (read : Option (Frame × ℕ)) → slice_get bytes 0 ≡ Some 69 → end_frame at (drop 1 bytes) ≡ Ok read
+end_read : (known : List KnownFormat) (limit : ℕ) (file : RecordFile) (at : ℕ) (bytes : List ℕ) (read : Option (Frame × ℕ))
+    → slice_get bytes 0 ≡ Some 69 → end_frame at (drop 1 bytes) ≡ Ok read
     → IsRead known limit file bytes read
 end_read known limit file at [] read letter e = absurd (cc)
 end_read known limit file at (first ∷ []) read letter e =
     subst (IsRead known limit file (first ∷ [])) (ok_is None read e) (ap (λ (byte : ℕ). byte ∷ []) (let same : first ≡ 69 = cc in same))
 end_read known limit file at (first ∷ second ∷ rest) read letter e = absurd (cc)
 
-read_by : (letter : Letter) (byte : ℕ) (known : List KnownFormat) (limit : ℕ) (file : RecordFile) (at : ℕ) (bytes : List ℕ) (read : Option (Frame × ℕ)) → AreBytes bytes → IsLetter byte letter
+read_by : (letter : Letter) (byte : ℕ) (known : List KnownFormat) (limit : ℕ) (file : RecordFile) (at : ℕ) (bytes : List ℕ)
+    (read : Option (Frame × ℕ)) → AreBytes bytes → IsLetter byte letter
     → slice_get bytes 0 ≡ Some byte → frame_by letter known limit file at bytes ≡ Ok read → IsRead known limit file bytes read
 read_by format_letter byte known limit file at bytes read are is there e =
-    frame_read known limit file bytes (own_frame file at bytes) read e (λ frame. own_begins known limit file at bytes frame are (there ∙ ap (λ (b : ℕ). Some b) is))
+    frame_read known limit file bytes (own_frame file at bytes) read e
+    (λ frame. own_begins known limit file at bytes frame are (there ∙ ap (λ (b : ℕ). Some b) is))
 read_by id_letter byte known limit file at bytes read are is there e =
-    frame_read known limit file bytes (known_frame known file at bytes) read e (λ frame. known_begins known limit file at bytes frame (there ∙ ap (λ (b : ℕ). Some b) is))
+    frame_read known limit file bytes (known_frame known file at bytes) read e
+    (λ frame. known_begins known limit file at bytes frame (there ∙ ap (λ (b : ℕ). Some b) is))
 read_by record_letter byte known limit file at bytes read are is there e =
-    frame_read known limit file bytes (record_frame known limit file at bytes) read e (λ frame. record_begins known limit file at bytes frame are (there ∙ ap (λ (b : ℕ). Some b) is))
-read_by end_letter byte known limit file at bytes read are is there e = end_read known limit file at bytes read (there ∙ ap (λ (b : ℕ). Some b) is) e
+    frame_read known limit file bytes (record_frame known limit file at bytes) read e
+    (λ frame. record_begins known limit file at bytes frame are (there ∙ ap (λ (b : ℕ). Some b) is))
+read_by end_letter byte known limit file at bytes read are is there e = end_read known limit file at bytes read
+    (there ∙ ap (λ (b : ℕ). Some b) is) e
 read_by no_letter byte known limit file at bytes read are is there e = absurd (cc)
 
-pub read_frame : (known : List KnownFormat) (limit : ℕ) (file : RecordFile) (at : ℕ) (bytes : List ℕ) (read : Option (Frame × ℕ)) → AreBytes bytes → frame_at known limit file at bytes ≡ Ok read
+pub read_frame : (known : List KnownFormat) (limit : ℕ) (file : RecordFile) (at : ℕ) (bytes : List ℕ) (read : Option (Frame × ℕ))
+    → AreBytes bytes → frame_at known limit file at bytes ≡ Ok read
     → IsRead known limit file bytes read
 unfolding frame_at
 read_frame known limit file at bytes read are e =
-    let letter = bind_ok (ok_or (slice_get bytes 0) (Short at)) (λ letter. frame_by (letter_of letter) known limit file at bytes) read e in
-    read_by (letter_of letter.0) letter.0 known limit file at bytes read are (letter_is letter.0) (ok_or_some (slice_get bytes 0) (Short at) letter.0 letter.1) letter.2
+    let letter = bind_ok (ok_or (slice_get bytes 0) (Short at)) (λ letter. frame_by (letter_of letter) known limit file at bytes) read e
+    in
+    read_by (letter_of letter.0) letter.0 known limit file at bytes read are (letter_is letter.0)
+    (ok_or_some (slice_get bytes 0) (Short at) letter.0 letter.1) letter.2

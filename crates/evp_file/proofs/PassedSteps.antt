@@ -1,5 +1,6 @@
 -- What steps that weren't refused tell, and the first element that passes a test.
-use Rattle.std.proofs.Common.{◌≡◌, ℕ, zero, suc, ◌+◌, ◌<◌, Bool, true, false, cond, List, [], ◌∷◌, Option, Some, None, Result, Ok, Err, refl, sym, ap, ◌∙◌, arith}
+use Rattle.std.proofs.Common.{◌≡◌, ℕ, zero, suc, ◌+◌, ◌<◌, Bool, true, false, cond, List, [], ◌∷◌, Option, Some, None, Result, Ok, Err}
+use Rattle.std.proofs.Common.{refl, sym, ap, ◌∙◌, arith}
 use Rattle.std.specs.Prelude.{slice_get}
 use Rattle.std.specs.List.{position_from}
 use Rattle.std.specs.Option.{ok_or}
@@ -7,7 +8,8 @@ use Rattle.evp_file.specs.declared.fault.FileFault.{FileFault}
 use Rattle.evp_file.specs.Steps.{◌>>=◌, only_if}
 
 -- the value of a step that wasn't refused
-pub bind_ok : {A B : Type 0} (r : Result A FileFault) (f : A → Result B FileFault) (y : B) → (r >>= f) ≡ Ok y → (x : A) × (r ≡ Ok x) × (f x ≡ Ok y)
+pub bind_ok : {A B : Type 0} (r : Result A FileFault) (f : A → Result B FileFault) (y : B) → (r >>= f) ≡ Ok y → (x : A) × (r ≡ Ok x)
+    × (f x ≡ Ok y)
 bind_ok (Ok x) f y e = (x, refl, e)
 bind_ok (Err fault) f y e = absurd (cc)
 
@@ -19,7 +21,8 @@ pub ok_or_some : {A : Type 0} (o : Option A) (fault : FileFault) (x : A) → ok_
 ok_or_some None fault x e = absurd (cc)
 ok_or_some (Some y) fault x e = cc
 
-pub not_refused : {A : Type 0} (b : Bool) (fault : FileFault) (r : Result A FileFault) (y : A) → cond b (Err fault) r ≡ Ok y → (b ≡ false) × (r ≡ Ok y)
+pub not_refused : {A : Type 0} (b : Bool) (fault : FileFault) (r : Result A FileFault) (y : A) → cond b (Err fault) r ≡ Ok y → (b ≡ false)
+    × (r ≡ Ok y)
 not_refused true fault r y e = absurd (cc)
 not_refused false fault r y e = (refl, e)
 
@@ -50,16 +53,23 @@ first_behind {A} p x xs j fails first = record {
     before_all zero other below there = ap p (let same : other ≡ x = cc in same) ∙ fails
     before_all (suc i) other below there = first.before i other (omega arith) there
 
-found_step : {A : Type 0} (p : A → Bool) (x : A) (xs : List A) (from k : ℕ) (b : Bool) → p x ≡ b → cond b (Some from) (position_from p (from + 1) xs) ≡ Some k
-    → ((from k : ℕ) → position_from p from xs ≡ Some k → (j : ℕ) × (k ≡ from + j) × IsFirst p xs j) → (j : ℕ) × (k ≡ from + j) × IsFirst p (x ∷ xs) j
-found_step p x xs from k true passes e later =
-    (0, (let same : from ≡ k = cc in omega (arith, same)), record { one = x; there = refl; passes = passes; before = λ i other below there. absurd (omega arith) })
+found_step : {A : Type 0} (p : A → Bool) (x : A) (xs : List A) (from k : ℕ) (b : Bool) → p x ≡ b
+    → cond b (Some from) (position_from p (from + 1) xs) ≡ Some k
+    → ((from k : ℕ) → position_from p from xs ≡ Some k → (j : ℕ) × (k ≡ from + j) × IsFirst p xs j) → (j : ℕ) × (k ≡ from + j)
+    × IsFirst p (x ∷ xs) j
+found_step p x xs from k true passes e later = (
+  0,
+  (let same : from ≡ k = cc in omega (arith, same)),
+  record
+      { one = x; there = refl; passes = passes; before = λ i other below there. absurd (omega arith) },
+)
 found_step p x xs from k false fails e later =
     let at = later (from + 1) k e in
     let is = at.1 in
     (suc at.0, omega (arith, is), first_behind p x xs at.0 fails at.2)
 
-pub found_first : {A : Type 0} (p : A → Bool) (xs : List A) (from k : ℕ) → position_from p from xs ≡ Some k → (j : ℕ) × (k ≡ from + j) × IsFirst p xs j
+pub found_first : {A : Type 0} (p : A → Bool) (xs : List A) (from k : ℕ) → position_from p from xs ≡ Some k → (j : ℕ) × (k ≡ from + j)
+    × IsFirst p xs j
 found_first p [] from k e = absurd (cc)
 found_first p (x ∷ xs) from k e = found_step p x xs from k (p x) refl e (found_first p xs)
 
@@ -68,8 +78,16 @@ first_found p [] from j first = absurd (let there = first.there in cc)
 first_found p (x ∷ xs) from zero first =
     let same : x ≡ first.one = (let there = first.there in cc) in
     let passes : p x ≡ true = ap p same ∙ first.passes in
-    ap (λ (b : Bool). cond b (Some from) (position_from p (from + 1) xs)) passes ∙ ap (λ (n : ℕ). Some n) (let e : from ≡ from + 0 = omega arith in e)
+    ap (λ (b : Bool). cond b (Some from) (position_from p (from + 1) xs)) passes
+    ∙ ap (λ (n : ℕ). Some n) (let e : from ≡ from + 0 = omega arith in e)
 first_found p (x ∷ xs) from (suc j) first =
     let fails : p x ≡ false = first.before 0 x (omega arith) refl in
-    let rest : IsFirst p xs j = record { one = first.one; there = first.there; passes = first.passes; before = λ i other below there. first.before (suc i) other (omega arith) there } in
-    ap (λ (b : Bool). cond b (Some from) (position_from p (from + 1) xs)) fails ∙ first_found p xs (from + 1) j rest ∙ ap (λ (n : ℕ). Some n) (let e : from + 1 + j ≡ from + suc j = omega arith in e)
+    let rest : IsFirst p xs j = record {
+      one = first.one;
+      there = first.there;
+      passes = first.passes;
+      before = λ i other below there.
+          first.before (suc i) other (omega arith) there;
+    } in
+    ap (λ (b : Bool). cond b (Some from) (position_from p (from + 1) xs)) fails ∙ first_found p xs (from + 1) j rest
+    ∙ ap (λ (n : ℕ). Some n) (let e : from + 1 + j ≡ from + suc j = omega arith in e)

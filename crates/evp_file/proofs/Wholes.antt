@@ -1,5 +1,6 @@
 -- A file that is read is whole, and its records are within the limit.
-use Rattle.std.proofs.Common.{◌≡◌, ℕ, zero, suc, ◌+◌, ◌-◌, ◌^◌, ◌<◌, ◌≤◌, List, [], ◌∷◌, ◌++◌, length, get_or, Option, Some, None, Result, Ok, Err, IfOk, refl, sym, ap, subst, ◌∙◌, length-append, arith}
+use Rattle.std.proofs.Common.{◌≡◌, ℕ, zero, suc, ◌+◌, ◌-◌, ◌^◌, ◌<◌, ◌≤◌, List, [], ◌∷◌, ◌++◌, length, get_or, Option, Some, None, Result}
+use Rattle.std.proofs.Common.{Ok, Err, IfOk, refl, sym, ap, subst, ◌∙◌, length-append, arith}
 use Rattle.std.specs.Prelude.{slice_get, option_and_then}
 use Rattle.std.specs.List.{All}
 use Rattle.std.proofs.lemmas.List.Elements.{All-nil, All-push}
@@ -21,18 +22,22 @@ use Rattle.evp_file.specs.Steps.{Gives}
 use Rattle.evp_file.specs.Whole.{IsFormatOf, IsRecordOf, IsWhole, IsWithin}
 use Rattle.evp_file.proofs.FilesRead.{file_found}
 
-get_more : (formats : List FileFormat) (more : FileFormat) (number : ℕ) (format : FileFormat) → slice_get formats number ≡ Some format → slice_get (formats ++ more ∷ []) number ≡ Some format
+get_more : (formats : List FileFormat) (more : FileFormat) (number : ℕ) (format : FileFormat) → slice_get formats number ≡ Some format
+    → slice_get (formats ++ more ∷ []) number ≡ Some format
 get_more [] more number format there = absurd (cc)
 get_more (first ∷ formats) more zero format there = there
 get_more (first ∷ formats) more (suc number) format there = get_more formats more number format there
 
-found_more : (known : List KnownFormat) (formats : List FileFormat) (more : FileFormat) (number : ℕ) (layout : Layout) (found : Option FileFormat) → slice_get formats number ≡ found
+found_more : (known : List KnownFormat) (formats : List FileFormat) (more : FileFormat) (number : ℕ) (layout : Layout)
+    (found : Option FileFormat) → slice_get formats number ≡ found
     → option_and_then (format_layout known) found ≡ Some layout → layout_in known (formats ++ more ∷ []) number ≡ Some layout
 found_more known formats more number layout None is there = absurd (cc)
-found_more known formats more number layout (Some format) is there = ap (option_and_then (format_layout known)) (get_more formats more number format is) ∙ there
+found_more known formats more number layout (Some format) is there = ap (option_and_then (format_layout known))
+    (get_more formats more number format is) ∙ there
 
 -- a record stays one behind a further format
-record_more : (known : List KnownFormat) (formats : List FileFormat) (more : FileFormat) (item : FileItem) → IsRecordOf known formats item → IsRecordOf known (formats ++ more ∷ []) item
+record_more : (known : List KnownFormat) (formats : List FileFormat) (more : FileFormat) (item : FileItem) → IsRecordOf known formats item
+    → IsRecordOf known (formats ++ more ∷ []) item
 record_more known formats more item is = record {
   layout = is.layout;
   there = found_more known formats more item.format is.layout (slice_get formats item.format) refl is.there;
@@ -49,7 +54,8 @@ record IsKept (known : List KnownFormat) (limit : ℕ) (file : RecordFile) : Typ
   whole : IsWhole known file
   within : All (IsWithin limit) file.items
 
-kept_with : (known : List KnownFormat) (limit : ℕ) (file : RecordFile) (frame : Frame) → limit < 2 ^ 32 → IsAdmissible known limit file frame → IsKept known limit file → IsKept known limit (with_frame file frame)
+kept_with : (known : List KnownFormat) (limit : ℕ) (file : RecordFile) (frame : Frame) → limit < 2 ^ 32
+    → IsAdmissible known limit file frame → IsKept known limit file → IsKept known limit (with_frame file frame)
 kept_with known limit file (Format format) small admissible kept =
     let few = admissible.0 in
     let long = length-append file.formats (format ∷ []) in
@@ -67,7 +73,8 @@ kept_with known limit file (Record item) small admissible kept =
     let is = admissible.1 in
     let short = is.short in
     let long = length-append file.items (item ∷ []) in
-    let here : IsRecordOf known file.formats item = record { layout = is.layout; there = is.there; short = omega (arith, short, small); viewed = is.viewed } in
+    let here : IsRecordOf known file.formats item = record
+        { layout = is.layout; there = is.there; short = omega (arith, short, small); viewed = is.viewed } in
     record {
       whole = record {
         few_formats = kept.whole.few_formats;
@@ -78,22 +85,29 @@ kept_with known limit file (Record item) small admissible kept =
       within = All-push (IsWithin limit) file.items item kept.within is.short;
     }
 
-kept_behind : (known : List KnownFormat) (limit : ℕ) (file : RecordFile) (frames : List Frame) (whole : RecordFile) → limit < 2 ^ 32 → LeadTo known limit file frames whole → IsKept known limit file → IsKept known limit whole
+kept_behind : (known : List KnownFormat) (limit : ℕ) (file : RecordFile) (frames : List Frame) (whole : RecordFile) → limit < 2 ^ 32
+    → LeadTo known limit file frames whole → IsKept known limit file → IsKept known limit whole
 kept_behind known limit file [] whole small lead kept = subst (IsKept known limit) lead kept
-kept_behind known limit file (frame ∷ frames) whole small lead kept = kept_behind known limit (with_frame file frame) frames whole small lead.1 (kept_with known limit file frame small lead.0 kept)
+kept_behind known limit file (frame ∷ frames) whole small lead kept = kept_behind known limit (with_frame file frame) frames whole small
+    lead.1 (kept_with known limit file frame small lead.0 kept)
 
 nothing_kept : (known : List KnownFormat) (limit : ℕ) → IsKept known limit no_frames
 nothing_kept known limit = record {
-  whole = record { few_formats = omega arith; few_items = omega arith; each_format = All-nil (IsFormatOf known); each_item = All-nil (IsRecordOf known []) };
+  whole = record { few_formats = omega arith; few_items = omega arith; each_format = All-nil (IsFormatOf known); each_item = All-nil
+      (IsRecordOf known []) };
   within = All-nil (IsWithin limit);
 }
 
-kept_file : (known : List KnownFormat) (limit : ℕ) (bytes : List ℕ) (file : RecordFile) → limit < 2 ^ 32 → AreBytes bytes → file_of known limit bytes ≡ Ok file → IsKept known limit file
+kept_file : (known : List KnownFormat) (limit : ℕ) (bytes : List ℕ) (file : RecordFile) → limit < 2 ^ 32 → AreBytes bytes
+    → file_of known limit bytes ≡ Ok file → IsKept known limit file
 kept_file known limit bytes file small are e =
     let is = file_found known limit bytes file are e in
     kept_behind known limit no_frames is.frames file small is.admissible (nothing_kept known limit)
 
-pub whole_read : (known : List KnownFormat) (limit : ℕ) (bytes : List ℕ) (result : Result RecordFile FileFault) → limit < 2 ^ 32 → AreBytes bytes
-    → Gives (λ (file : RecordFile). file) result (file_of known limit bytes) → IfOk result (λ file. IsWhole known file) × IfOk result (λ file. All (IsWithin limit) file.items)
-whole_read known limit bytes (Ok file) small are said = let kept = kept_file known limit bytes file small are said in (kept.whole, kept.within)
+pub whole_read : (known : List KnownFormat) (limit : ℕ) (bytes : List ℕ) (result : Result RecordFile FileFault) → limit < 2 ^ 32
+    → AreBytes bytes
+    → Gives (λ (file : RecordFile). file) result (file_of known limit bytes) → IfOk result (λ file. IsWhole known file)
+        × IfOk result (λ file. All (IsWithin limit) file.items)
+whole_read known limit bytes (Ok file) small are said =
+    let kept = kept_file known limit bytes file small are said in (kept.whole, kept.within)
 whole_read known limit bytes (Err fault) small are said = (tt, tt)

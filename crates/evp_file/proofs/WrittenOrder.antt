@@ -17,7 +17,8 @@ in_order known file =
     let items = flat_map item_bytes file.items in
     let parts : frames_bytes known (frames_of file) ≡ formats ++ items =
     flat_map-append (frame_bytes known) (map Format file.formats) (map Record file.items)
-    ∙ ap (λ (front : List ℕ). front ++ flat_map (frame_bytes known) (map Record file.items)) (flat_map-map (frame_bytes known) Format file.formats)
+    ∙ ap (λ (front : List ℕ). front ++ flat_map (frame_bytes known) (map Record file.items))
+    (flat_map-map (frame_bytes known) Format file.formats)
     ∙ ap (λ (back : List ℕ). formats ++ back) (flat_map-map (frame_bytes known) Record file.items) in
     ap (λ (front : List ℕ). front ++ codes "E") (append_assoc magic formats items) ∙ append_assoc magic (formats ++ items) (codes "E")
     ∙ ap (λ (frames : List ℕ). magic ++ (frames ++ codes "E")) (sym parts)

@@ -3,7 +3,10 @@ use Rattle.std.specs.Prelude.{ℕ, List, ◌++◌, codes}
 use Rattle.evp_format.specs.BrokenText.{broken_text}
 use Rattle.evp_format.specs.FaultText.{layout_fault_text}
 use Rattle.evp_file.specs.declared.fault.FileFault.{FileFault}
-use Rattle.evp_file.specs.declared.fault.FileFault.TheVariants.{Magic, Short, FrameKind, Layout, UnknownId, FormatNumber, Broken, TooLarge, Trailing, Records, Formats, Memory}
+use Rattle.evp_file.specs.declared.fault.FileFault.TheVariants.{Magic, Short, FrameKind, Layout}
+use Rattle.evp_file.specs.declared.fault.FileFault.TheVariants.{UnknownId, FormatNumber, Broken}
+use Rattle.evp_file.specs.declared.fault.FileFault.TheVariants.{TooLarge, Trailing, Records}
+use Rattle.evp_file.specs.declared.fault.FileFault.TheVariants.{Formats, Memory}
 
 abbrev pub file_fault_text : FileFault → List ℕ
 file_fault_text Magic = codes "magic"

@@ -1,5 +1,6 @@
 -- What a record file holds, and the layouts of its formats.
-use Rattle.std.specs.Prelude.{ℕ, List, [], ◌∷◌, ◌++◌, Option, Some, option_map, option_and_then, slice_get}
+use Rattle.std.specs.Prelude.{ℕ, List, [], ◌∷◌, ◌++◌, Option, Some, option_map, option_and_then}
+use Rattle.std.specs.Prelude.{slice_get}
 use Rattle.evp_format.specs.Layout.{Layout}
 use Rattle.evp_file.specs.declared.file.FileFormat.{FileFormat}
 use Rattle.evp_file.specs.declared.file.FileFormat.TheVariants.{Own, Known}

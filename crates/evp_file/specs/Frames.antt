@@ -1,5 +1,7 @@
--- The grammar of record files: the magic, and frames of which the end alone is the last, each admissible after those before it.
-use Rattle.std.specs.Prelude.{◌≡◌, ◌≢◌, ◌<◌, ◌≤◌, ◌+◌, ℕ, List, [], ◌∷◌, ◌++◌, length, Some, None, Option, slice_get, IsOk, codes}
+-- The grammar of record files: the magic, and frames of which the end alone is the last, each
+-- admissible after those before it.
+use Rattle.std.specs.Prelude.{◌≡◌, ◌≢◌, ◌<◌, ◌≤◌, ◌+◌, ℕ, List, [], ◌∷◌, ◌++◌, length, Some, None}
+use Rattle.std.specs.Prelude.{Option, slice_get, IsOk, codes}
 use Rattle.std.specs.List.{flat_map}
 use Rattle.evp_format.specs.Describing.{describe, described_number}
 use Rattle.evp_format.specs.Layout.{Layout}
@@ -47,29 +49,37 @@ pub record IsFirstKnown (known : List KnownFormat) (k : ℕ) : Type 0 where
   pub one : KnownFormat
   pub there : slice_get known k ≡ Some one
   pub whole : length one.id.0 ≡ 32
-  pub before : (j : ℕ) (other : KnownFormat) → j < k → slice_get known j ≡ Some other → other.id.0 ≢ one.id.0
+  pub before : (j : ℕ) (other : KnownFormat) → j < k → slice_get known j ≡ Some other
+      → other.id.0 ≢ one.id.0
 
 -- a format that a file may have: a well laid one, or a known one
 abbrev pub IsFormat : List KnownFormat → FileFormat → Type 0
 IsFormat known (Own layout) = IsWellLaid layout
 IsFormat known (Known k) = IsFirstKnown known k
 
--- a record that a file with these formats may have: of one of them, at most so long, and with a value
-pub record IsItem (known : List KnownFormat) (limit : ℕ) (formats : List FileFormat) (item : FileItem) : Type 0 where
+-- a record that a file with these formats may have: of one of them, at most so long, and with a
+-- value
+pub record IsItem (known : List KnownFormat) (limit : ℕ) (formats : List FileFormat)
+    (item : FileItem) : Type 0 where
   pub layout : Layout
   pub there : layout_in known formats item.format ≡ Some layout
   pub short : length item.bytes ≤ limit
   pub viewed : IsOk (view layout item.bytes)
 
--- a frame that may follow those of this file: at most 1,024 formats and 131,072 records, a record's format before the record
+-- a frame that may follow those of this file: at most 1,024 formats and 131,072 records, a
+-- record's format before the record
 abbrev pub IsAdmissible : List KnownFormat → ℕ → RecordFile → Frame → Type 0
-IsAdmissible known limit file (Format format) = (length file.formats < 1024) × IsFormat known format
-IsAdmissible known limit file (Record item) = (length file.items < 131072) × IsItem known limit file.formats item
+IsAdmissible known limit file (Format format) = (length file.formats < 1024)
+    × IsFormat known format
+IsAdmissible known limit file (Record item) = (length file.items < 131072)
+    × IsItem known limit file.formats item
 
--- behind this file's frames each of these is admissible after those before it, and with them it is the whole
+-- behind this file's frames each of these is admissible after those before it, and with them it
+-- is the whole
 abbrev pub LeadTo : List KnownFormat → ℕ → RecordFile → List Frame → RecordFile → Type 0
 LeadTo known limit file [] whole = file ≡ whole
-LeadTo known limit file (frame ∷ frames) whole = IsAdmissible known limit file frame × LeadTo known limit (with_frame file frame) frames whole
+LeadTo known limit file (frame ∷ frames) whole = IsAdmissible known limit file frame
+    × LeadTo known limit (with_frame file frame) frames whole
 
 -- ---- files
 
@@ -77,7 +87,8 @@ abbrev pub magic : List ℕ
 magic = codes "NDR1"
 
 -- the bytes are this file
-pub record IsFile (known : List KnownFormat) (limit : ℕ) (bytes : List ℕ) (file : RecordFile) : Type 0 where
+pub record IsFile (known : List KnownFormat) (limit : ℕ) (bytes : List ℕ)
+    (file : RecordFile) : Type 0 where
   pub frames : List Frame
   pub admissible : LeadTo known limit no_frames frames file
   pub spelled : bytes ≡ magic ++ (frames_bytes known frames ++ codes "E")

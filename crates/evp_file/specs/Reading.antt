@@ -1,5 +1,8 @@
--- The first fault of a record file, from left to right: each frame is read and tested before the next.
-use Rattle.std.specs.Prelude.{ℕ, zero, suc, ◌+◌, Bool, true, false, nat_eq, nat_le, nat_lt, if◌then◌else◌, List, [], ◌∷◌, length, take, drop, Option, Some, None, slice_get, Result, Ok, Err}
+-- The first fault of a record file, from left to right: each frame is read and tested before the
+-- next.
+use Rattle.std.specs.Prelude.{ℕ, zero, suc, ◌+◌, Bool, true, false, nat_eq, nat_le, nat_lt}
+use Rattle.std.specs.Prelude.{if◌then◌else◌, List, [], ◌∷◌, length, take, drop, Option, Some}
+use Rattle.std.specs.Prelude.{None, slice_get, Result, Ok, Err}
 use Rattle.std.specs.List.{position_from}
 use Rattle.std.specs.Option.{ok_or}
 use Rattle.evp_base.specs.declared.order.Order.TheVariants.{Big}
@@ -13,7 +16,11 @@ use Rattle.evp_format.specs.Layout.{Layout}
 use Rattle.evp_format.specs.Reading.{layout_of}
 use Rattle.evp_format.specs.Viewing.{view}
 use Rattle.evp_file.specs.declared.fault.FileFault.{FileFault}
-use Rattle.evp_file.specs.declared.fault.FileFault.TheVariants.{Magic, Short, FrameKind, Layout as LayoutOf, UnknownId, FormatNumber, Broken as BrokenAt, TooLarge, Trailing, Records, Formats}
+use Rattle.evp_file.specs.declared.fault.FileFault.TheVariants.{Magic, Short, FrameKind}
+use Rattle.evp_file.specs.declared.fault.FileFault.TheVariants.{Layout as LayoutOf, UnknownId}
+use Rattle.evp_file.specs.declared.fault.FileFault.TheVariants.{FormatNumber, Broken as BrokenAt}
+use Rattle.evp_file.specs.declared.fault.FileFault.TheVariants.{TooLarge, Trailing, Records}
+use Rattle.evp_file.specs.declared.fault.FileFault.TheVariants.{Formats}
 use Rattle.evp_file.specs.declared.file.FileFormat.TheVariants.{Own, Known}
 use Rattle.evp_file.specs.declared.file.KnownFormat.{KnownFormat}
 use Rattle.evp_file.specs.declared.file.RecordFile.{RecordFile}
@@ -27,7 +34,8 @@ use Rattle.evp_file.specs.Steps.{◌>>=◌, only_if}
 
 -- the `size` bytes from `place` on
 unfoldable pub part : ℕ → List ℕ → ℕ → ℕ → Result (List ℕ) FileFault
-part at bytes place size = if nat_lt (length bytes) (place + size) then Err (Short at) else Ok (bytes_at place size bytes)
+part at bytes place size = if nat_lt (length bytes) (place + size) then Err (Short at)
+    else Ok (bytes_at place size bytes)
 
 -- the number of `size` bytes
 unfoldable pub number_part : ℕ → List ℕ → ℕ → ℕ → Result ℕ FileFault
@@ -54,7 +62,8 @@ own_frame file at bytes = do
 abbrev pub known_number : List KnownFormat → List ℕ → Option ℕ
 known_number known id = position_from (λ (one : KnownFormat). bytes_equal one.id.0 id) 0 known
 
-unfoldable pub known_frame : List KnownFormat → RecordFile → ℕ → List ℕ → Result (Frame × ℕ) FileFault
+unfoldable pub known_frame : List KnownFormat → RecordFile → ℕ → List ℕ
+    → Result (Frame × ℕ) FileFault
 known_frame known file at bytes = do
   id ← part at bytes 1 32
   room ← only_if (nat_lt (length file.formats) 1024) (Formats at)
@@ -66,7 +75,8 @@ abbrev pub unbroken : ℕ → Layout → Result Datum Broken → Result (Unit {0
 unbroken at layout (Ok value) = Ok tt
 unbroken at layout (Err fault) = Err (BrokenAt at fault (fault_path layout fault))
 
-unfoldable pub record_frame : List KnownFormat → ℕ → RecordFile → ℕ → List ℕ → Result (Frame × ℕ) FileFault
+unfoldable pub record_frame : List KnownFormat → ℕ → RecordFile → ℕ → List ℕ
+    → Result (Frame × ℕ) FileFault
 record_frame known limit file at bytes = do
   format ← number_part at bytes 1 2
   size ← number_part at bytes 3 4
@@ -92,21 +102,27 @@ pub data Letter : Type 0 where
 
 abbrev pub letter_of : ℕ → Letter
 letter_of byte =
-    if nat_eq byte 70 then format_letter else (if nat_eq byte 73 then id_letter else (if nat_eq byte 82 then record_letter else (if nat_eq byte 69 then end_letter else no_letter)))
+    if nat_eq byte 70 then format_letter else
+    (if nat_eq byte 73 then id_letter else
+    (if nat_eq byte 82 then record_letter else
+    (if nat_eq byte 69 then end_letter else no_letter)))
 
 abbrev pub goes_on : Result (Frame × ℕ) FileFault → Result (Option (Frame × ℕ)) FileFault
 goes_on (Ok frame) = Ok (Some frame)
 goes_on (Err fault) = Err fault
 
 -- the frame that the letter begins, or none at the end
-abbrev pub frame_by : Letter → List KnownFormat → ℕ → RecordFile → ℕ → List ℕ → Result (Option (Frame × ℕ)) FileFault
+abbrev pub frame_by : Letter → List KnownFormat → ℕ → RecordFile → ℕ → List ℕ
+    → Result (Option (Frame × ℕ)) FileFault
 frame_by format_letter known limit file at bytes = goes_on (own_frame file at bytes)
 frame_by id_letter known limit file at bytes = goes_on (known_frame known file at bytes)
-frame_by record_letter known limit file at bytes = goes_on (record_frame known limit file at bytes)
+frame_by record_letter known limit file at bytes = goes_on
+    (record_frame known limit file at bytes)
 frame_by end_letter known limit file at bytes = end_frame at (drop 1 bytes)
 frame_by no_letter known limit file at bytes = Err (FrameKind at)
 
-unfoldable pub frame_at : List KnownFormat → ℕ → RecordFile → ℕ → List ℕ → Result (Option (Frame × ℕ)) FileFault
+unfoldable pub frame_at : List KnownFormat → ℕ → RecordFile → ℕ → List ℕ
+    → Result (Option (Frame × ℕ)) FileFault
 frame_at known limit file at bytes = do
   letter ← ok_or (slice_get bytes 0) (Short at)
   frame_by (letter_of letter) known limit file at bytes
@@ -114,16 +130,20 @@ frame_at known limit file at bytes = do
 -- ---- files
 
 -- the file at its end, or what is behind one more frame
-abbrev pub after_frame : RecordFile → Option (Frame × ℕ) → (RecordFile → ℕ → Result RecordFile FileFault) → Result RecordFile FileFault
+abbrev pub after_frame : RecordFile → Option (Frame × ℕ)
+    → (RecordFile → ℕ → Result RecordFile FileFault) → Result RecordFile FileFault
 after_frame file None next = Ok file
 after_frame file (Some (frame, size)) next = next (with_frame file frame) size
 
--- the frames of these bytes, which are `most` bytes or fewer, behind those of a file; each frame has a byte
-unfoldable pub frames_from : ℕ → List KnownFormat → ℕ → RecordFile → ℕ → List ℕ → Result RecordFile FileFault
+-- the frames of these bytes, which are `most` bytes or fewer, behind those of a file; each frame
+-- has a byte
+unfoldable pub frames_from : ℕ → List KnownFormat → ℕ → RecordFile → ℕ → List ℕ
+    → Result RecordFile FileFault
 frames_from zero known limit file at bytes = Err (Short at)
 frames_from (suc most) known limit file at bytes = do
   frame ← frame_at known limit file at bytes
-  after_frame file frame (λ more size. frames_from most known limit more (at + size) (drop size bytes))
+  after_frame file frame (λ more size. frames_from most known limit more (at + size)
+      (drop size bytes))
 
 -- the bytes begin with the magic
 abbrev pub has_magic : List ℕ → Bool

@@ -12,7 +12,8 @@ use Rattle.evp_file.specs.File.{file_with, item_of}
 -- one little endian number `x` of 4 bytes
 abbrev pub number_description : List ℕ
 number_description =
-    codes "NDF1" ++ 0 ∷ 4 ∷ 0 ∷ 1 ∷ 1 ∷ 112 ∷ 0 ∷ 0 ∷ 0 ∷ 4 ∷ 0 ∷ 1 ∷ 1 ∷ 120 ∷ 7 ∷ codes "integer" ++ 0 ∷ 0 ∷ 0 ∷ 4 ∷ 0 ∷ 0 ∷ 0 ∷ 0 ∷ []
+    codes "NDF1" ++ 0 ∷ 4 ∷ 0 ∷ 1 ∷ 1 ∷ 112 ∷ 0 ∷ 0 ∷ 0 ∷ 4 ∷ 0 ∷ 1 ∷ 1 ∷ 120 ∷ 7
+    ∷ codes "integer" ++ 0 ∷ 0 ∷ 0 ∷ 4 ∷ 0 ∷ 0 ∷ 0 ∷ 0 ∷ []
 
 abbrev pub number_layout : Layout
 number_layout = record {
@@ -21,7 +22,14 @@ number_layout = record {
   types = record {
     name = 112 ∷ [];
     length = 4;
-    fields = record { name = 120 ∷ []; base = Number Int; shape = One; size = 4; offset = 0; fallback = pos 0 } ∷ [];
+    fields = record {
+      name = 120 ∷ [];
+      base = Number Int;
+      shape = One;
+      size = 4;
+      offset = 0;
+      fallback = pos 0;
+    } ∷ [];
   } ∷ [];
 }
 

@@ -4,7 +4,8 @@ use Rattle.evp_file.specs.declared.fault.FileFault.{FileFault}
 use Rattle.evp_file.specs.declared.fault.FileFault.TheVariants.{Memory}
 
 infixl 10 ◌>>=◌
-abbrev pub ◌>>=◌ : {A B : Type 0} → Result A FileFault → (A → Result B FileFault) → Result B FileFault
+abbrev pub ◌>>=◌ : {A B : Type 0} → Result A FileFault → (A → Result B FileFault)
+    → Result B FileFault
 (Ok x) >>= f = f x
 (Err fault) >>= f = Err fault
 

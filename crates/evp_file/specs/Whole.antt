@@ -16,7 +16,8 @@ IsFormatOf known (Own layout) = IsWellLaid layout
 IsFormatOf known (Known k) = k < length known
 
 -- a record of one of these formats: fewer than 2^32 bytes, with a value
-pub record IsRecordOf (known : List KnownFormat) (formats : List FileFormat) (item : FileItem) : Type 0 where
+pub record IsRecordOf (known : List KnownFormat) (formats : List FileFormat)
+    (item : FileItem) : Type 0 where
   pub layout : Layout
   pub there : layout_in known formats item.format ≡ Some layout
   pub short : length item.bytes < 2 ^ 32

@@ -5,7 +5,8 @@ ghost use Rattle.evp_format.specs.Bytes.{bytes_equal};
 ghost use Rattle.evp_format.specs.Reading.{layout_of};
 ghost use Rattle.evp_format.specs.Viewing.{view};
 ghost use Rattle.evp_file.specs.File.{layout_in};
-ghost use Rattle.evp_file.specs.Reading.{described, own_frame, known_number, known_frame, unbroken, record_frame, frame_at};
+ghost use Rattle.evp_file.specs.Reading.{described, own_frame, known_number, known_frame};
+ghost use Rattle.evp_file.specs.Reading.{unbroken, record_frame, frame_at};
 ghost use Rattle.evp_file.specs.Steps.{Gives, Says};
 
 use crate::parts::{number_part, part};
@@ -51,7 +52,8 @@ impl<'a> Reader<'a> {
     ) -> Result<Option<(Frame, u32)>, FileFault>
         requires near { at + length bytes.now < 2 ^ 31 }
         requires few { length self.now.known.now ≤ 65536 }
-        ensures value { Gives (λ frame. frame) result (frame_at self.now.known.now self.now.limit file.now at bytes.now) }
+        ensures value { Gives (λ frame. frame) result
+            (frame_at self.now.known.now self.now.limit file.now at bytes.now) }
         ensures within { IfOk result (λ frame. IfSome frame (λ read. read.1 ≤ length bytes.now)) }
     {
         let Some(letter) = bytes.first() else {
@@ -77,7 +79,8 @@ impl<'a> Reader<'a> {
         bytes: &[u8],
     ) -> Result<(Frame, u32), FileFault>
         requires near { at + length bytes.now < 2 ^ 31 }
-        ensures value { Gives (λ frame. frame) result (record_frame self.now.known.now self.now.limit file.now at bytes.now) }
+        ensures value { Gives (λ frame. frame) result
+            (record_frame self.now.known.now self.now.limit file.now at bytes.now) }
         ensures within { IfOk result (λ read. read.1 ≤ length bytes.now) }
     {
         let number = number_part(at, bytes, 1, 2)?;

@@ -35,7 +35,8 @@ pub fn read_file(
 fn read_all(alloc: Global, bytes: &[u8], reader: &Reader) -> Result<RecordFile, FileFault>
     requires short { length bytes.now < 2 ^ 31 }
     requires few { length reader.now.known.now ≤ 65536 }
-    ensures { Gives (λ file. file) result (file_of reader.now.known.now reader.now.limit bytes.now) }
+    ensures { Gives (λ file. file) result
+        (file_of reader.now.known.now reader.now.limit bytes.now) }
 {
     if !has_magic(bytes) {
         return Err(FileFault::Magic);
@@ -64,7 +65,9 @@ fn push_frame(file: &mut RecordFile, frame: Frame) -> Result<(), Memory>
 fn frames_from(alloc: Global, reader: &Reader, bytes: &[u8]) -> Result<RecordFile, FileFault>
     requires short { 4 + length bytes.now < 2 ^ 31 }
     requires few { length reader.now.known.now ≤ 65536 }
-    ensures { Gives (λ file. file) result (frames_from (length bytes.now) reader.now.known.now reader.now.limit no_frames 4 bytes.now) }
+    ensures { Gives (λ file. file) result
+        (frames_from (length bytes.now) reader.now.known.now reader.now.limit no_frames 4
+        bytes.now) }
 {
     let mut file = RecordFile {
         formats: FileFormats::from_vec(Vec::new(alloc)),

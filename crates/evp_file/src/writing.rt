@@ -1,6 +1,7 @@
 //! Writing a record file.
 
-ghost use Rattle.std.specs.Prelude.{◌≡◌, ◌++◌, ◌-◌, ◌*◌, ◌^◌, ◌<◌, ◌≤◌, length, All, IfOk, OnOk, IsTrue, codes};
+ghost use Rattle.std.specs.Prelude.{◌≡◌, ◌++◌, ◌-◌, ◌*◌, ◌^◌, ◌<◌, ◌≤◌, length};
+ghost use Rattle.std.specs.Prelude.{All, IfOk, OnOk, IsTrue, codes};
 ghost use Rattle.std.specs.List.{flat_map};
 ghost use Rattle.evp_base.specs.Numbers.{is_width};
 ghost use Rattle.evp_format.specs.Describing.{describe, described_number};
@@ -14,8 +15,8 @@ use evp_format::{Format, write_description};
 use std::alloc::Global;
 
 /// The file as bytes: its formats first, then its records, then the end. A format of the file is
-/// written by its description, a known one by its identifier. The file is within the limits, and its
-/// records have values.
+/// written by its description, a known one by its identifier. The file is within the limits, and
+/// its records have values.
 pub fn write_file(
     alloc: Global,
     file: &RecordFile,
@@ -40,7 +41,8 @@ fn put_formats(
     formats: &[FileFormat],
 ) -> Result<(), Memory>
     requires { All (IsFormatOf known.now) formats.now }
-    ensures { OnOk result (out.new.items ≡ out.old.items ++ flat_map (format_bytes known.now) formats.now) }
+    ensures { OnOk result
+        (out.new.items ≡ out.old.items ++ flat_map (format_bytes known.now) formats.now) }
 {
     for format in formats {
         put_format(out, alloc, known, format)?;
@@ -65,7 +67,8 @@ fn put_format(
 
 // A format by its description.
 fn put_own(out: &mut Vec<u8>, alloc: Global, format: &Format) -> Result<(), Memory>
-    ensures { OnOk result (out.new.items ≡ out.old.items ++ (codes "F" ++ sized (describe format.now))) }
+    ensures { OnOk result
+        (out.new.items ≡ out.old.items ++ (codes "F" ++ sized (describe format.now))) }
 {
     // A well laid format has a short description.
     let _laid = format.types();

@@ -5,4 +5,5 @@ use Rattle.evp_file.proofs.writing.put_formats.Given as goal
 
 abbrev pub invariant-loop-format : goal.invariant-loop-format
 invariant-loop-format l =
-    l.out.items ++ flat_map (format_bytes l.known) (drop l.format-index l.formats) ≡ l.fn.out.items ++ flat_map (format_bytes l.known) l.formats
+    l.out.items ++ flat_map (format_bytes l.known) (drop l.format-index l.formats) ≡ l.fn.out.items
+    ++ flat_map (format_bytes l.known) l.formats

@@ -38,19 +38,24 @@ abbrev AreStatedAs : ℕ → List RecordType → List DeclaredField → List Dra
 AreStatedAs pointer earlier [] [] = Unit {0}
 AreStatedAs pointer earlier [] (draft ∷ drafts) = ⊥
 AreStatedAs pointer earlier (declared ∷ rest) [] = ⊥
-AreStatedAs pointer earlier (declared ∷ rest) (draft ∷ drafts) = IsStatedAs pointer earlier declared draft × AreStatedAs pointer earlier rest drafts
+AreStatedAs pointer earlier (declared ∷ rest) (draft ∷ drafts) = IsStatedAs pointer earlier declared draft
+    × AreStatedAs pointer earlier rest drafts
 
-record StatedBehind (pointer : ℕ) (earlier : List RecordType) (before : List DraftField) (declared : List DeclaredField) (drafts : List DraftField) : Type 0 where
+record StatedBehind (pointer : ℕ) (earlier : List RecordType) (before : List DraftField) (declared : List DeclaredField)
+    (drafts : List DraftField) : Type 0 where
   pub new : List DraftField
   pub are : drafts ≡ before ++ new
   pub each : AreStatedAs pointer earlier declared new
 
-stated_behind : (pointer : ℕ) (earlier : List RecordType) (before : List DraftField) (declared : List DeclaredField) (drafts : List DraftField) → stated_fields pointer earlier before declared ≡ Ok drafts
+stated_behind : (pointer : ℕ) (earlier : List RecordType) (before : List DraftField) (declared : List DeclaredField)
+    (drafts : List DraftField) → stated_fields pointer earlier before declared ≡ Ok drafts
     → StatedBehind pointer earlier before declared drafts
 unfolding stated_fields
-stated_behind pointer earlier before [] drafts e = record { new = []; are = sym (ok_is before drafts e) ∙ sym (append-nil before); each = tt }
+stated_behind pointer earlier before [] drafts e = record
+    { new = []; are = sym (ok_is before drafts e) ∙ sym (append-nil before); each = tt }
 stated_behind pointer earlier before (declared ∷ rest) drafts e =
-    let field = bind_ok (stated_field pointer earlier before declared) (λ field. stated_fields pointer earlier (before ++ field ∷ []) rest) drafts e in
+    let field = bind_ok (stated_field pointer earlier before declared) (λ field. stated_fields pointer earlier (before ++ field ∷ []) rest)
+    drafts e in
     let facts = stated_field_facts pointer earlier before declared field.0 field.1 in
     let more = stated_behind pointer earlier (before ++ field.0 ∷ []) rest drafts field.2 in
     record {
@@ -61,22 +66,26 @@ stated_behind pointer earlier before (declared ∷ rest) drafts e =
 
 -- ---- fields in their places
 
-names_placed : (profile : Profile) (known : List Tree) (end : ℕ) (fields : List Field) (c : ℕ) → field_name (placed_fields profile known end fields) c ≡ field_name fields c
+names_placed : (profile : Profile) (known : List Tree) (end : ℕ) (fields : List Field) (c : ℕ)
+    → field_name (placed_fields profile known end fields) c ≡ field_name fields c
 names_placed profile known end [] c = refl
 names_placed profile known end (field ∷ fields) zero = refl
 names_placed profile known end (field ∷ fields) (suc c) = names_placed profile known (end_behind profile known end field) fields c
 
-shape_placed : (all placed : List Field) (shape : Shape) → ((c : ℕ) → field_name placed c ≡ field_name all c) → shape_text placed shape ≡ stated_shape_text (stated_shape all shape)
+shape_placed : (all placed : List Field) (shape : Shape) → ((c : ℕ) → field_name placed c ≡ field_name all c) → shape_text placed shape
+    ≡ stated_shape_text (stated_shape all shape)
 shape_placed all placed One same = refl
 shape_placed all placed (Fixed n) same = refl
 shape_placed all placed (Counted c) same = ap (λ (name : List ℕ). stated_shape_text (draft.Counted name)) (same c)
 
-declared_size : (pointer : ℕ) (earlier : List RecordType) (base : Base) (size declared : ℕ) → size ≡ size_meant pointer earlier base declared → HasDeclaredSize base size declared
+declared_size : (pointer : ℕ) (earlier : List RecordType) (base : Base) (size declared : ℕ) → size
+    ≡ size_meant pointer earlier base declared → HasDeclaredSize base size declared
 declared_size pointer earlier (Number kind) size declared is = is
 declared_size pointer earlier Text size declared is = tt
 declared_size pointer earlier (Nested k) size declared is = tt
 
-fields_declared : (profile : Profile) (pointer : ℕ) (earlier : List RecordType) (known : List Tree) (all placed : List Field) (end : ℕ) (declared : List DeclaredField) (fields : List Field)
+fields_declared : (profile : Profile) (pointer : ℕ) (earlier : List RecordType) (known : List Tree) (all placed : List Field) (end : ℕ)
+    (declared : List DeclaredField) (fields : List Field)
     → ((c : ℕ) → field_name placed c ≡ field_name all c) → AreStatedAs pointer earlier declared (stated_all all fields)
     → AreDeclaredFields earlier placed declared (placed_fields profile known end fields)
 fields_declared profile pointer earlier known all placed end [] [] same are = tt
@@ -95,7 +104,8 @@ fields_declared profile pointer earlier known all placed end (declared ∷ rest)
 
 -- ---- types
 
-type_declared : (profile : Profile) (earlier : List RecordType) (declared : DeclaredType) (type : RecordType) → IsMade profile earlier declared type → IsDeclaredType earlier declared type
+type_declared : (profile : Profile) (earlier : List RecordType) (declared : DeclaredType) (type : RecordType)
+    → IsMade profile earlier declared type → IsDeclaredType earlier declared type
 type_declared profile earlier declared type made =
     let pointer = pointer_size profile in
     let ended = made.ended in
@@ -103,11 +113,13 @@ type_declared profile earlier declared type made =
     let placed = placed_fields profile known 0 ended.fields in
     let stated = stated_behind pointer earlier [] declared.fields made.drafts made.stated in
     let are : AreStatedAs pointer earlier declared.fields (stated_all ended.fields ended.fields) =
-    subst (AreStatedAs pointer earlier declared.fields) (sym stated.are ∙ drafts_stated (length earlier) made.drafts ended.fields ended.counted) stated.each in
+    subst (AreStatedAs pointer earlier declared.fields)
+    (sym stated.are ∙ drafts_stated (length earlier) made.drafts ended.fields ended.counted) stated.each in
     let name = type_name_facts earlier declared.name made.name made.named in
     subst (IsDeclaredType earlier declared) ended.is (record {
       named = sym name.3;
-      fields = fields_declared profile pointer earlier known ended.fields placed 0 declared.fields ended.fields (names_placed profile known 0 ended.fields) are;
+      fields = fields_declared profile pointer earlier known ended.fields placed 0 declared.fields ended.fields
+          (names_placed profile known 0 ended.fields) are;
     })
 
 pub record TypesBehind (earlier : List RecordType) (declared : List DeclaredType) (types : List RecordType) : Type 0 where
@@ -115,7 +127,8 @@ pub record TypesBehind (earlier : List RecordType) (declared : List DeclaredType
   pub are : types ≡ earlier ++ new
   pub each : AreDeclaredTypes earlier declared new
 
-pub types_behind : (profile : Profile) (earlier : List RecordType) (declared : List DeclaredType) (types : List RecordType) → laid_types profile earlier declared ≡ Ok types → TypesBehind earlier declared types
+pub types_behind : (profile : Profile) (earlier : List RecordType) (declared : List DeclaredType) (types : List RecordType)
+    → laid_types profile earlier declared ≡ Ok types → TypesBehind earlier declared types
 unfolding laid_types
 types_behind profile earlier [] types e = record { new = []; are = sym (ok_is earlier types e) ∙ sym (append-nil earlier); each = tt }
 types_behind profile earlier (declared ∷ rest) types e =

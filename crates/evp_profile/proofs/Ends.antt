@@ -19,7 +19,8 @@ above_is_false a b below = elim (leb_tells a b) [ inl within ↦ absurd (let mos
 abbrev pub unplaced : List ℕ → List Field → RecordType
 unplaced name fields = type_of name 0 fields
 
-pub counted_sized : (type : ℕ) (drafts : List DraftField) (fields : List Field) → counted_fields type 0 drafts drafts ≡ Ok fields → All HasDraftSize drafts → All HasNumberSize fields
+pub counted_sized : (type : ℕ) (drafts : List DraftField) (fields : List Field) → counted_fields type 0 drafts drafts ≡ Ok fields
+    → All HasDraftSize drafts → All HasNumberSize fields
 counted_sized type drafts fields counted sized k d below =
     let each = counted_each type 0 drafts drafts fields counted in
     let some = slice_get-some fields k below in

@@ -1,5 +1,6 @@
 -- The law of layout by profile.
-use Rattle.std.proofs.Common.{◌≡◌, ℕ, suc, List, [], ◌∷◌, ◌++◌, length, take, Result, Ok, Err, refl, sym, ap, subst, ◌∙◌, append_assoc, arith}
+use Rattle.std.proofs.Common.{◌≡◌, ℕ, suc, List, [], ◌∷◌, ◌++◌, length, take, Result, Ok, Err, refl, sym, ap, subst, ◌∙◌, append_assoc}
+use Rattle.std.proofs.Common.{arith}
 use Rattle.std.specs.Prelude.{slice_get, nat_le, ◌&&◌, Some, MatchResult}
 use Rattle.std.proofs.lemmas.Bool.{and_parts, leb-true}
 use Rattle.std.proofs.lemmas.List.{append-nil, take_at}
@@ -27,18 +28,22 @@ use Rattle.evp_profile.proofs.LaidOut.{laid_types-well_laid, laid_types-as_in_c}
 
 -- ---- what is laid out is declared
 
-layout_is : (profile : Profile) (declared : List DeclaredType) (layout : Layout) → by_profile profile declared ≡ Ok layout → IsLayoutOf profile declared layout
+layout_is : (profile : Profile) (declared : List DeclaredType) (layout : Layout) → by_profile profile declared ≡ Ok layout
+    → IsLayoutOf profile declared layout
 unfolding by_profile type_count
 layout_is profile declared layout e =
-    let finish : List RecordType → Result Layout LayoutFault = λ types. Ok (layout_with (byte_order profile) (pointer_size profile) types) in
+    let finish : List RecordType → Result Layout LayoutFault = λ types. Ok (layout_with (byte_order profile) (pointer_size profile) types)
+    in
     let count = bind_ok (type_count (length declared)) (λ count. laid_types profile [] declared >>= finish) layout e in
     let types = bind_ok (laid_types profile [] declared) finish layout count.2 in
     let made = layout_with (byte_order profile) (pointer_size profile) types.0 in
-    let counted = passed (nat_le 1 (length declared) && nat_le (length declared) 64) (Limit Types (length declared)) (length declared) count.0 count.1 in
+    let counted = passed (nat_le 1 (length declared) && nat_le (length declared) 64) (Limit Types (length declared)) (length declared)
+    count.0 count.1 in
     let parts = and_parts (nat_le 1 (length declared)) (nat_le (length declared) 64) counted.0 in
     let behind = types_behind profile [] declared types.0 types.1 in
     let is : IsLayoutOf profile declared made = record {
-      laid = laid_types-well_laid profile declared types.0 (leb-true 1 (length declared) parts.0) (leb-true (length declared) 64 parts.1) types.1;
+      laid = laid_types-well_laid profile declared types.0 (leb-true 1 (length declared) parts.0) (leb-true (length declared) 64 parts.1)
+          types.1;
       in_c = laid_types-as_in_c profile declared types.0 types.1;
       types = subst (AreDeclaredTypes [] declared) (sym behind.are) behind.each;
     } in
@@ -46,31 +51,37 @@ layout_is profile declared layout e =
 
 -- ---- what is declared is laid out
 
-types_again : (profile : Profile) (layout : Layout) (front rest : List RecordType) (declared : List DeclaredType) → IsCLayout profile layout → Splits layout front rest → AreDeclaredTypes front declared rest
+types_again : (profile : Profile) (layout : Layout) (front rest : List RecordType) (declared : List DeclaredType) → IsCLayout profile layout
+    → Splits layout front rest → AreDeclaredTypes front declared rest
     → laid_types profile front declared ≡ Ok layout.types
 unfolding laid_types
-types_again profile layout front [] [] in_c splits are = ap (λ (types : List RecordType). done types) (sym (append-nil front) ∙ sym splits.is)
+types_again profile layout front [] [] in_c splits are = ap (λ (types : List RecordType). done types)
+    (sym (append-nil front) ∙ sym splits.is)
 types_again profile layout front [] (declared ∷ more) in_c splits are = absurd are
 types_again profile layout front (type ∷ rest) [] in_c splits are = absurd are
 types_again profile layout front (type ∷ rest) (declared ∷ more) in_c splits are =
     let k = length front in
-    let at_seam : slice_get layout.types k ≡ Some type = ap (λ (some : List RecordType). slice_get some k) splits.is ∙ slice_get-seam front rest type in
+    let at_seam : slice_get layout.types k ≡ Some type = ap (λ (some : List RecordType). slice_get some k) splits.is
+    ∙ slice_get-seam front rest type in
     let before : take k layout.types ≡ front = ap (take k) splits.is ∙ take_at front (type ∷ rest) k refl in
     let follows = subst (λ (n : ℕ). MayFollow n front type) in_c.has_pointer (may_follow layout front rest type splits) in
     let stands = subst (λ (some : List RecordType). IsLaidInC profile some type) before (in_c.each_type k type at_seam) in
     let first = type_again profile front declared type (are_earlier layout front (type ∷ rest) splits).names follows stands are.0 in
     let together : front ++ type ∷ rest ≡ (front ++ type ∷ []) ++ rest = sym (append_assoc front (type ∷ []) rest) in
-    let later = types_again profile layout (front ++ type ∷ []) rest more in_c (record { laid = splits.laid; is = splits.is ∙ together }) are.1 in
+    let later = types_again profile layout (front ++ type ∷ []) rest more in_c (record { laid = splits.laid; is = splits.is ∙ together })
+    are.1 in
     let with_type : RecordType → Result (List RecordType) LayoutFault = λ type. laid_types profile (front ++ type ∷ []) more in
     ap (λ (r : Result RecordType LayoutFault). r >>= with_type) first ∙ later
 
-declared_count : (earlier : List RecordType) (declared : List DeclaredType) (types : List RecordType) → AreDeclaredTypes earlier declared types → length declared ≡ length types
+declared_count : (earlier : List RecordType) (declared : List DeclaredType) (types : List RecordType)
+    → AreDeclaredTypes earlier declared types → length declared ≡ length types
 declared_count earlier [] [] are = refl
 declared_count earlier [] (type ∷ types) are = absurd are
 declared_count earlier (declared ∷ rest) [] are = absurd are
 declared_count earlier (declared ∷ rest) (type ∷ types) are = ap suc (declared_count (earlier ++ type ∷ []) rest types are.1)
 
-layout_again : (profile : Profile) (declared : List DeclaredType) (layout : Layout) → IsLayoutOf profile declared layout → by_profile profile declared ≡ Ok layout
+layout_again : (profile : Profile) (declared : List DeclaredType) (layout : Layout) → IsLayoutOf profile declared layout
+    → by_profile profile declared ≡ Ok layout
 layout_again profile declared layout is =
     let types = layout.types in
     let count = declared_count [] declared types is.types in

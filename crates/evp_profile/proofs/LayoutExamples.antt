@@ -19,7 +19,11 @@ declared_with name text size fallback = record { name = name; type_text = text; 
 
 -- a type `p` with a char `c` and an integer `v` of 8 bytes
 abbrev char_and_wide : List DeclaredType
-char_and_wide = record { name = codes "p"; fields = declared_with (codes "c") (codes "char") 1 0 ∷ declared_with (codes "v") (codes "integer") 8 0 ∷ [] } ∷ []
+char_and_wide = record {
+  name = codes "p";
+  fields = declared_with (codes "c") (codes "char") 1 0
+      ∷ declared_with (codes "v") (codes "integer") 8 0 ∷ [];
+} ∷ []
 
 -- the offsets of the last type's fields, and its length
 abbrev offsets_of : List RecordType → Option (List ℕ × ℕ)
@@ -36,45 +40,69 @@ fault_in (Ok layout) = None
 fault_in (Err fault) = Some fault
 
 wide_on_le64 : placed (by_profile Le64 char_and_wide) ≡ Some (0 ∷ 8 ∷ [], 16)
-unfolding digits word_of fixed_of inside_of shape_of base_of type_text_of shape_in counted_fields without_count_default within_nesting new_type_name new_field_count new_field_name allowed_size allowed_default ended_type stated_field stated_fields within_length laid_type laid_types type_count by_profile
+unfolding digits word_of fixed_of inside_of shape_of base_of type_text_of shape_in counted_fields without_count_default within_nesting
+    new_type_name new_field_count new_field_name allowed_size allowed_default ended_type stated_field stated_fields within_length laid_type
+    laid_types type_count by_profile
 wide_on_le64 = refl
 
 wide_on_le32 : placed (by_profile Le32 char_and_wide) ≡ Some (0 ∷ 4 ∷ [], 12)
-unfolding digits word_of fixed_of inside_of shape_of base_of type_text_of shape_in counted_fields without_count_default within_nesting new_type_name new_field_count new_field_name allowed_size allowed_default ended_type stated_field stated_fields within_length laid_type laid_types type_count by_profile
+unfolding digits word_of fixed_of inside_of shape_of base_of type_text_of shape_in counted_fields without_count_default within_nesting
+    new_type_name new_field_count new_field_name allowed_size allowed_default ended_type stated_field stated_fields within_length laid_type
+    laid_types type_count by_profile
 wide_on_le32 = refl
 
 wide_on_be32 : placed (by_profile Be32 char_and_wide) ≡ Some (0 ∷ 8 ∷ [], 16)
-unfolding digits word_of fixed_of inside_of shape_of base_of type_text_of shape_in counted_fields without_count_default within_nesting new_type_name new_field_count new_field_name allowed_size allowed_default ended_type stated_field stated_fields within_length laid_type laid_types type_count by_profile
+unfolding digits word_of fixed_of inside_of shape_of base_of type_text_of shape_in counted_fields without_count_default within_nesting
+    new_type_name new_field_count new_field_name allowed_size allowed_default ended_type stated_field stated_fields within_length laid_type
+    laid_types type_count by_profile
 wide_on_be32 = refl
 
 -- a type `e` of an integer of 2 bytes and one of 8, and `r` with a char, 3 of `e`, and a string
 abbrev nested_types : List DeclaredType
 nested_types =
-    record { name = codes "e"; fields = declared_with (codes "a") (codes "integer") 2 0 ∷ declared_with (codes "b") (codes "integer") 8 0 ∷ [] }
-    ∷ record { name = codes "r"; fields = declared_with (codes "c") (codes "char") 1 0 ∷ declared_with (codes "e") (codes "e[3]") 0 0 ∷ declared_with (codes "s") (codes "string") 0 0 ∷ [] }
+    record {
+      name = codes "e";
+      fields = declared_with (codes "a") (codes "integer") 2 0 ∷ declared_with (codes "b") (codes "integer") 8 0
+          ∷ [];
+    }
+    ∷ record {
+      name = codes "r";
+      fields = declared_with (codes "c") (codes "char") 1 0 ∷ declared_with (codes "e") (codes "e[3]") 0 0
+          ∷ declared_with (codes "s") (codes "string") 0 0 ∷ [];
+    }
     ∷ []
 
 nested_on_le64 : placed (by_profile Le64 nested_types) ≡ Some (0 ∷ 8 ∷ 56 ∷ [], 64)
-unfolding digits word_of fixed_of inside_of shape_of base_of type_text_of shape_in counted_fields without_count_default within_nesting new_type_name new_field_count new_field_name allowed_size allowed_default ended_type stated_field stated_fields within_length laid_type laid_types type_count by_profile
+unfolding digits word_of fixed_of inside_of shape_of base_of type_text_of shape_in counted_fields without_count_default within_nesting
+    new_type_name new_field_count new_field_name allowed_size allowed_default ended_type stated_field stated_fields within_length laid_type
+    laid_types type_count by_profile
 nested_on_le64 = refl
 
 nested_on_le32 : placed (by_profile Le32 nested_types) ≡ Some (0 ∷ 4 ∷ 40 ∷ [], 44)
-unfolding digits word_of fixed_of inside_of shape_of base_of type_text_of shape_in counted_fields without_count_default within_nesting new_type_name new_field_count new_field_name allowed_size allowed_default ended_type stated_field stated_fields within_length laid_type laid_types type_count by_profile
+unfolding digits word_of fixed_of inside_of shape_of base_of type_text_of shape_in counted_fields without_count_default within_nesting
+    new_type_name new_field_count new_field_name allowed_size allowed_default ended_type stated_field stated_fields within_length laid_type
+    laid_types type_count by_profile
 nested_on_le32 = refl
 
 nested_on_be32 : placed (by_profile Be32 nested_types) ≡ Some (0 ∷ 8 ∷ 56 ∷ [], 64)
-unfolding digits word_of fixed_of inside_of shape_of base_of type_text_of shape_in counted_fields without_count_default within_nesting new_type_name new_field_count new_field_name allowed_size allowed_default ended_type stated_field stated_fields within_length laid_type laid_types type_count by_profile
+unfolding digits word_of fixed_of inside_of shape_of base_of type_text_of shape_in counted_fields without_count_default within_nesting
+    new_type_name new_field_count new_field_name allowed_size allowed_default ended_type stated_field stated_fields within_length laid_type
+    laid_types type_count by_profile
 nested_on_be32 = refl
 
 abbrev one_field : List ℕ → ℕ → ℕ → List DeclaredType
 one_field text size fallback = record { name = codes "p"; fields = declared_with (codes "s") text size fallback ∷ [] } ∷ []
 
 string_has_no_default : fault_in (by_profile Le32 (one_field (codes "string") 0 1)) ≡ Some (fault.Default 0 0)
-unfolding digits word_of fixed_of inside_of shape_of base_of type_text_of shape_in counted_fields without_count_default within_nesting new_type_name new_field_count new_field_name allowed_size allowed_default ended_type stated_field stated_fields within_length laid_type laid_types type_count by_profile
+unfolding digits word_of fixed_of inside_of shape_of base_of type_text_of shape_in counted_fields without_count_default within_nesting
+    new_type_name new_field_count new_field_name allowed_size allowed_default ended_type stated_field stated_fields within_length laid_type
+    laid_types type_count by_profile
 string_has_no_default = refl
 
 long_is_refused : fault_in (by_profile Le32 (one_field (codes "integer[16385]") 4 0)) ≡ Some (fault.Limit which.Length 65540)
-unfolding digits word_of fixed_of inside_of shape_of base_of type_text_of shape_in counted_fields without_count_default within_nesting new_type_name new_field_count new_field_name allowed_size allowed_default ended_type stated_field stated_fields within_length laid_type laid_types type_count by_profile
+unfolding digits word_of fixed_of inside_of shape_of base_of type_text_of shape_in counted_fields without_count_default within_nesting
+    new_type_name new_field_count new_field_name allowed_size allowed_default ended_type stated_field stated_fields within_length laid_type
+    laid_types type_count by_profile
 long_is_refused = refl
 
 no_types_are_refused : fault_in (by_profile Le64 []) ≡ Some (fault.Limit which.Types 0)

@@ -34,7 +34,8 @@ from_rest step n (suc rest) positive is =
       times = suc (n / step);
       is_multiple = same;
       from = omega (arith, gap);
-      least = λ k from. let least = next_is_least n step (n / step) (suc rest) k (omega (arith, whole, is)) (omega arith) from in omega (arith, same, least);
+      least = λ k from. let least = next_is_least n step (n / step) (suc rest) k (omega (arith, whole, is)) (omega arith) from in
+          omega (arith, same, least);
     }
 
 pub next_multiple_is_least : (step n : ℕ) → 0 < step → IsLeastMultiple step n (next_multiple_of n step)

@@ -1,5 +1,6 @@
 -- What holds of fields that are stated one by one.
-use Rattle.std.proofs.Common.{◌≡◌, ℕ, ◌+◌, ◌≤◌, ℤ, pos, true, false, List, [], ◌∷◌, ◌++◌, length, Option, Some, None, Result, Ok, refl, sym, subst, arith}
+use Rattle.std.proofs.Common.{◌≡◌, ℕ, ◌+◌, ◌≤◌, ℤ, pos, true, false, List, [], ◌∷◌, ◌++◌, length, Option, Some, None, Result, Ok, refl, sym}
+use Rattle.std.proofs.Common.{subst, arith}
 use Rattle.std.specs.Prelude.{slice_get}
 use Rattle.std.specs.List.{All}
 use Rattle.std.proofs.lemmas.Bool.{eqb-true, le-leb}
@@ -35,7 +36,8 @@ use Rattle.evp_profile.specs.Sizes.{is_number_size, HasDraftSize}
 -- ---- a field
 
 -- a declared field behind these, wherever it stands
-pub record IsStated (pointer : ℕ) (earlier : List RecordType) (before : List DraftField) (declared : DeclaredField) (field : DraftField) : Type 0 where
+pub record IsStated (pointer : ℕ) (earlier : List RecordType) (before : List DraftField) (declared : DeclaredField)
+    (field : DraftField) : Type 0 where
   pub named : is_name field.name ≡ true
   pub fresh : has_field before field.name ≡ false
   pub known : IsKnown earlier field.base
@@ -51,19 +53,25 @@ pub record IsStated (pointer : ℕ) (earlier : List RecordType) (before : List D
 states_start : (name : List ℕ) (said : Base × DraftShape) (size : ℕ) (fallback : ℤ) → (draft_of name said size 0 fallback).offset ≡ 0
 states_start name said size fallback = refl
 
-pub stated_field_facts : (pointer : ℕ) (earlier : List RecordType) (before : List DraftField) (declared : DeclaredField) (field : DraftField) → stated_field pointer earlier before declared ≡ Ok field
+pub stated_field_facts : (pointer : ℕ) (earlier : List RecordType) (before : List DraftField) (declared : DeclaredField)
+    (field : DraftField) → stated_field pointer earlier before declared ≡ Ok field
     → IsStated pointer earlier before declared field
 unfolding stated_field
 stated_field_facts pointer earlier before declared field e =
     let type = length earlier in
     let number = length before in
-    let last : List ℕ → Base × DraftShape → ℕ → ℤ → Result DraftField LayoutFault = λ name said size fallback. Ok (draft_of name said size 0 fallback) in
-    let with_size : List ℕ → Base × DraftShape → ℕ → Result DraftField LayoutFault = λ name said size. allowed_default type number (draft_of name said size 0 (pos 0)) declared.fallback >>= last name said size in
-    let with_type : List ℕ → Base × DraftShape → Result DraftField LayoutFault = λ name said. allowed_size pointer earlier number said.0 (size_meant pointer earlier said.0 declared.size) >>= with_size name said in
-    let with_name : List ℕ → Result DraftField LayoutFault = λ name. type_text_of earlier type number declared.type_text >>= with_type name in
+    let last : List ℕ → Base × DraftShape → ℕ → ℤ → Result DraftField LayoutFault = λ name said size fallback. Ok
+    (draft_of name said size 0 fallback) in
+    let with_size : List ℕ → Base × DraftShape → ℕ → Result DraftField LayoutFault = λ name said size. allowed_default type number
+    (draft_of name said size 0 (pos 0)) declared.fallback >>= last name said size in
+    let with_type : List ℕ → Base × DraftShape → Result DraftField LayoutFault = λ name said. allowed_size pointer earlier number said.0
+    (size_meant pointer earlier said.0 declared.size) >>= with_size name said in
+    let with_name : List ℕ → Result DraftField LayoutFault = λ name. type_text_of earlier type number declared.type_text
+    >>= with_type name in
     let name = bind_ok (new_field_name type before declared.name) with_name field e in
     let said = bind_ok (type_text_of earlier type number declared.type_text) (with_type name.0) field name.2 in
-    let size = bind_ok (allowed_size pointer earlier number said.0.0 (size_meant pointer earlier said.0.0 declared.size)) (with_size name.0 said.0) field said.2 in
+    let size = bind_ok (allowed_size pointer earlier number said.0.0 (size_meant pointer earlier said.0.0 declared.size))
+    (with_size name.0 said.0) field said.2 in
     let plain = draft_of name.0 said.0 size.0 0 (pos 0) in
     let fallback = bind_ok (allowed_default type number plain declared.fallback) (last name.0 said.0 size.0) field size.2 in
     let made = draft_of name.0 said.0 size.0 0 fallback.0 in
@@ -88,7 +96,8 @@ stated_field_facts pointer earlier before declared field e =
 
 -- ---- sizes of numbers
 
-number_size : (pointer : ℕ) (earlier : List RecordType) (base : Base) (size : ℕ) → is_base_size pointer earlier base size ≡ true → is_number_size base size ≡ true
+number_size : (pointer : ℕ) (earlier : List RecordType) (base : Base) (size : ℕ) → is_base_size pointer earlier base size ≡ true
+    → is_number_size base size ≡ true
 number_size pointer earlier (Number kind) size sized = sized
 number_size pointer earlier Text size sized = refl
 number_size pointer earlier (Nested k) size sized = refl
@@ -97,11 +106,14 @@ abbrev AreSized : List DraftField → Type 0
 AreSized fields = (k : ℕ) (field : DraftField) → slice_get fields k ≡ Some field → HasDraftSize field
 
 sized_from : (pointer : ℕ) (earlier : List RecordType) (before : List DraftField) (declared : List DeclaredField) (drafts : List DraftField)
-    → stated_fields pointer earlier before declared ≡ Ok drafts → AreSized before → AreSized drafts × (length drafts ≡ length before + length declared)
+    → stated_fields pointer earlier before declared ≡ Ok drafts → AreSized before → AreSized drafts
+    × (length drafts ≡ length before + length declared)
 unfolding stated_fields
-sized_from pointer earlier before [] drafts e sized = subst (λ (some : List DraftField). AreSized some × (length some ≡ length before + 0)) (ok_is before drafts e) (sized, omega arith)
+sized_from pointer earlier before [] drafts e sized = subst (λ (some : List DraftField). AreSized some × (length some ≡ length before + 0))
+    (ok_is before drafts e) (sized, omega arith)
 sized_from pointer earlier before (declared ∷ rest) drafts e sized =
-    let field = bind_ok (stated_field pointer earlier before declared) (λ field. stated_fields pointer earlier (before ++ field ∷ []) rest) drafts e in
+    let field = bind_ok (stated_field pointer earlier before declared) (λ field. stated_fields pointer earlier (before ++ field ∷ []) rest)
+    drafts e in
     let facts = stated_field_facts pointer earlier before declared field.0 field.1 in
     let grown = length-append before (field.0 ∷ []) in
     let all = sized_from pointer earlier (before ++ field.0 ∷ []) rest drafts field.2
@@ -114,8 +126,11 @@ pub stated_sized : (pointer : ℕ) (earlier : List RecordType) (declared : List 
     → stated_fields pointer earlier [] declared ≡ Ok drafts → All HasDraftSize drafts × (length drafts ≡ length declared)
 stated_sized pointer earlier declared drafts e =
     let all = sized_from pointer earlier [] declared drafts e (λ k field found. absurd (cc)) in
-    let count = all.1 in
-    (λ k d below. let some = slice_get-some drafts k below in subst HasDraftSize (sym (get_or_from_slice_get drafts k some.0 d some.1)) (all.0 k some.0 some.1), omega (arith, count))
+    let count = all.1 in (
+      λ k d below. let some = slice_get-some drafts k below in
+          subst HasDraftSize (sym (get_or_from_slice_get drafts k some.0 d some.1)) (all.0 k some.0 some.1),
+      omega (arith, count),
+    )
 
 -- ---- bounds
 
@@ -130,11 +145,13 @@ number_bound Char size sized = grind (arith, nat_tests)
 number_bound Boolean size sized = grind (arith, nat_tests)
 number_bound Enumeration size sized = grind (arith, nat_tests)
 
-nested_bound : (earlier : List RecordType) (k : ℕ) (o : Option RecordType) → slice_get earlier k ≡ o → AreShort earlier → (elim o [ None ↦ 0 | Some type ↦ type.length ]) ≤ 65536
+nested_bound : (earlier : List RecordType) (k : ℕ) (o : Option RecordType) → slice_get earlier k ≡ o → AreShort earlier
+    → (elim o [ None ↦ 0 | Some type ↦ type.length ]) ≤ 65536
 nested_bound earlier k None found short = omega arith
 nested_bound earlier k (Some type) found short = short k type found
 
-size_bound : (pointer : ℕ) (earlier : List RecordType) (base : Base) (size : ℕ) → pointer ≤ 8 → AreShort earlier → is_base_size pointer earlier base size ≡ true → size ≤ 65536
+size_bound : (pointer : ℕ) (earlier : List RecordType) (base : Base) (size : ℕ) → pointer ≤ 8 → AreShort earlier
+    → is_base_size pointer earlier base size ≡ true → size ≤ 65536
 size_bound pointer earlier (Number kind) size small short sized = number_bound kind size sized
 size_bound pointer earlier Text size small short sized = let same = eqb-true size pointer sized in omega (arith, same)
 size_bound pointer earlier (Nested k) size small short sized =
@@ -142,12 +159,14 @@ size_bound pointer earlier (Nested k) size small short sized =
     let bound = nested_bound earlier k (slice_get earlier k) refl short in
     omega (arith, same, bound)
 
-extent_bound : (pointer size : ℕ) (shape : DraftShape) → pointer ≤ 8 → size ≤ 65536 → IsStatedShape shape → draft_extent pointer shape size ≤ 4294967296
+extent_bound : (pointer size : ℕ) (shape : DraftShape) → pointer ≤ 8 → size ≤ 65536 → IsStatedShape shape
+    → draft_extent pointer shape size ≤ 4294967296
 extent_bound pointer size draft.One small short shaped = omega arith
 extent_bound pointer size (draft.Fixed n) small short shaped = let most = mul-le-mul shaped.1 short in omega (arith, most)
 extent_bound pointer size (draft.Counted name) small short shaped = omega arith
 
-follows_from : (pointer : ℕ) (earlier : List RecordType) (before : List DraftField) (declared : DeclaredField) (field : DraftField) → pointer ≤ 8 → AreShort earlier → IsStated pointer earlier before declared field
+follows_from : (pointer : ℕ) (earlier : List RecordType) (before : List DraftField) (declared : DeclaredField) (field : DraftField)
+    → pointer ≤ 8 → AreShort earlier → IsStated pointer earlier before declared field
     → Follows pointer earlier 4294967296 before field
 follows_from pointer earlier before declared field small short stated =
     let size = size_bound pointer earlier field.base field.size small short stated.sized in
@@ -165,16 +184,23 @@ follows_from pointer earlier before declared field small short stated =
       fresh = stated.fresh;
     }
 
-drafts_from : (pointer : ℕ) (earlier : List RecordType) (before : List DraftField) (declared : List DeclaredField) (drafts : List DraftField) → pointer ≤ 8 → AreShort earlier
-    → stated_fields pointer earlier before declared ≡ Ok drafts → AreDrafts pointer earlier 4294967296 before → AreDrafts pointer earlier 4294967296 drafts
+drafts_from : (pointer : ℕ) (earlier : List RecordType) (before : List DraftField) (declared : List DeclaredField)
+    (drafts : List DraftField) → pointer ≤ 8 → AreShort earlier
+    → stated_fields pointer earlier before declared ≡ Ok drafts → AreDrafts pointer earlier 4294967296 before
+    → AreDrafts pointer earlier 4294967296 drafts
 unfolding stated_fields
 drafts_from pointer earlier before [] drafts small short e are = subst (AreDrafts pointer earlier 4294967296) (ok_is before drafts e) are
 drafts_from pointer earlier before (declared ∷ rest) drafts small short e are =
-    let field = bind_ok (stated_field pointer earlier before declared) (λ field. stated_fields pointer earlier (before ++ field ∷ []) rest) drafts e in
-    let follows = follows_from pointer earlier before declared field.0 small short (stated_field_facts pointer earlier before declared field.0 field.1) in
-    drafts_from pointer earlier (before ++ field.0 ∷ []) rest drafts small short field.2 (drafts_push pointer earlier 4294967296 before field.0 are follows)
+    let field = bind_ok (stated_field pointer earlier before declared) (λ field. stated_fields pointer earlier (before ++ field ∷ []) rest)
+    drafts e in
+    let follows = follows_from pointer earlier before declared field.0 small short
+    (stated_field_facts pointer earlier before declared field.0 field.1) in
+    drafts_from pointer earlier (before ++ field.0 ∷ []) rest drafts small short field.2
+    (drafts_push pointer earlier 4294967296 before field.0 are follows)
 
 -- stated fields as a description's, in a type that is long enough for each
-pub stated_drafts : (pointer : ℕ) (earlier : List RecordType) (declared : List DeclaredField) (drafts : List DraftField) → pointer ≤ 8 → AreShort earlier
+pub stated_drafts : (pointer : ℕ) (earlier : List RecordType) (declared : List DeclaredField) (drafts : List DraftField) → pointer ≤ 8
+    → AreShort earlier
     → stated_fields pointer earlier [] declared ≡ Ok drafts → AreDrafts pointer earlier 4294967296 drafts
-stated_drafts pointer earlier declared drafts small short e = drafts_from pointer earlier [] declared drafts small short e (no_drafts pointer earlier 4294967296)
+stated_drafts pointer earlier declared drafts small short e = drafts_from pointer earlier [] declared drafts small short e
+    (no_drafts pointer earlier 4294967296)

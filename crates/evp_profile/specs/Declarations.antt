@@ -14,13 +14,21 @@ pub record DeclaredType : Type 0 where
   pub fields : List DeclaredField
 
 abbrev pub field_declared : Decl → DeclaredField
-field_declared field = record { name = string_bytes field.name; type_text = string_bytes field.type_text; size = field.size; fallback = field.fallback }
+field_declared field = record {
+  name = string_bytes field.name;
+  type_text = string_bytes field.type_text;
+  size = field.size;
+  fallback = field.fallback;
+}
 
 abbrev pub fields_declared : List Decl → List DeclaredField
 fields_declared fields = map field_declared fields
 
 abbrev pub type_declared : TypeDecl → DeclaredType
-type_declared type = record { name = string_bytes type.name; fields = fields_declared type.fields.items }
+type_declared type = record {
+  name = string_bytes type.name;
+  fields = fields_declared type.fields.items;
+}
 
 abbrev pub types_declared : List TypeDecl → List DeclaredType
 types_declared types = map type_declared types

@@ -1,6 +1,7 @@
--- The format of declared types by a profile, or the first fault: of the number of types, then type by type; of a type its name, the
--- number of its fields, each field, and what shows at its end.
-use Rattle.std.specs.Prelude.{ℕ, pos, ◌&&◌, nat_le, if◌then◌else◌, List, [], ◌∷◌, ◌++◌, length, min, Result, Ok, Err}
+-- The format of declared types by a profile, or the first fault: of the number of types, then type
+-- by type; of a type its name, the number of its fields, each field, and what shows at its end.
+use Rattle.std.specs.Prelude.{ℕ, pos, ◌&&◌, nat_le, if◌then◌else◌, List, [], ◌∷◌, ◌++◌, length, min}
+use Rattle.std.specs.Prelude.{Result, Ok, Err}
 use Rattle.evp_format.specs.declared.draft.DraftField.{DraftField}
 use Rattle.evp_format.specs.declared.field.Base.{Base}
 use Rattle.evp_format.specs.declared.field.Base.TheVariants.{Number, Text, Nested}
@@ -10,7 +11,8 @@ use Rattle.evp_format.specs.declared.layout_fault.Which.TheVariants.{Types, Leng
 use Rattle.evp_format.specs.declared.record_type.RecordType.{RecordType}
 use Rattle.evp_format.specs.Drafts.{nested_length, draft_of}
 use Rattle.evp_format.specs.Layout.{Layout, layout_with}
-use Rattle.evp_format.specs.Parts.{new_type_name, new_field_count, new_field_name, allowed_size, allowed_default, ended_type}
+use Rattle.evp_format.specs.Parts.{new_type_name, new_field_count, new_field_name, allowed_size}
+use Rattle.evp_format.specs.Parts.{allowed_default, ended_type}
 use Rattle.evp_format.specs.Steps.{◌>>=◌}
 use Rattle.evp_format.specs.Tree.{trees}
 use Rattle.evp_format.specs.TypeText.{type_text_of}
@@ -28,17 +30,22 @@ size_meant pointer earlier (Number kind) size = size
 size_meant pointer earlier Text size = pointer
 size_meant pointer earlier (Nested k) size = nested_length earlier k
 
--- a field of the type behind `earlier`, behind the fields `before`; where it stands is settled at the type's end
-unfoldable pub stated_field : ℕ → List RecordType → List DraftField → DeclaredField → Result DraftField LayoutFault
+-- a field of the type behind `earlier`, behind the fields `before`; where it stands is settled at
+-- the type's end
+unfoldable pub stated_field : ℕ → List RecordType → List DraftField → DeclaredField
+    → Result DraftField LayoutFault
 stated_field pointer earlier before declared = do
   name ← new_field_name (length earlier) before declared.name
   said ← type_text_of earlier (length earlier) (length before) declared.type_text
-  size ← allowed_size pointer earlier (length before) said.0 (size_meant pointer earlier said.0 declared.size)
-  fallback ← allowed_default (length earlier) (length before) (draft_of name said size 0 (pos 0)) declared.fallback
+  size ← allowed_size pointer earlier (length before) said.0
+      (size_meant pointer earlier said.0 declared.size)
+  fallback ← allowed_default (length earlier) (length before)
+      (draft_of name said size 0 (pos 0)) declared.fallback
   Ok (draft_of name said size 0 fallback)
 
 -- these fields, behind the fields `before`
-unfoldable pub stated_fields : ℕ → List RecordType → List DraftField → List DeclaredField → Result (List DraftField) LayoutFault
+unfoldable pub stated_fields : ℕ → List RecordType → List DraftField → List DeclaredField
+    → Result (List DraftField) LayoutFault
 stated_fields pointer earlier before [] = Ok before
 stated_fields pointer earlier before (declared ∷ rest) = do
   field ← stated_field pointer earlier before declared
@@ -48,7 +55,8 @@ stated_fields pointer earlier before (declared ∷ rest) = do
 
 -- a length of at most 65,536; one that passes 2^32 - 1 is reported as that
 unfoldable pub within_length : RecordType → Result RecordType LayoutFault
-within_length type = if nat_le type.length 65536 then Ok type else Err (Limit Length (min type.length 4294967295))
+within_length type =
+    if nat_le type.length 65536 then Ok type else Err (Limit Length (min type.length 4294967295))
 
 -- a type behind these; where its fields stand is settled once nothing else is refused
 unfoldable pub laid_type : Profile → List RecordType → DeclaredType → Result RecordType LayoutFault
@@ -60,7 +68,8 @@ laid_type profile earlier declared = do
   within_length (placed_type profile (trees earlier) type)
 
 -- these types, behind the types `earlier`
-unfoldable pub laid_types : Profile → List RecordType → List DeclaredType → Result (List RecordType) LayoutFault
+unfoldable pub laid_types : Profile → List RecordType → List DeclaredType
+    → Result (List RecordType) LayoutFault
 laid_types profile earlier [] = Ok earlier
 laid_types profile earlier (declared ∷ rest) = do
   type ← laid_type profile earlier declared

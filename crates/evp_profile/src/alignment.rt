@@ -2,7 +2,8 @@
 
 ghost use Rattle.std.specs.Prelude.{◌≡◌, ◌<◌, min, IsTrue};
 ghost use Rattle.evp_format.specs.Tree.{trees, part_of};
-ghost use Rattle.evp_profile.specs.Alignment.{pointer_alignment, part_alignment, field_alignment, fields_alignment};
+ghost use Rattle.evp_profile.specs.Alignment.{pointer_alignment, part_alignment, field_alignment};
+ghost use Rattle.evp_profile.specs.Alignment.{fields_alignment};
 ghost use Rattle.evp_profile.specs.Profile.{greatest_alignment};
 ghost use Rattle.evp_profile.specs.Sizes.{is_number_size};
 
@@ -12,7 +13,8 @@ use evp_format::{Base, Field, Shape};
 
 /// The greatest of the fields' alignments.
 pub(crate) fn fields_alignment(earlier: &LaidTypes, fields: &[Field]) -> u8
-    ensures value { result ≡ fields_alignment earlier.now.profile (trees earlier.now.types) fields.now }
+    ensures value { result ≡ fields_alignment earlier.now.profile (trees earlier.now.types)
+        fields.now }
     ensures positive { 0 < result }
 {
     let mut greatest = 1;
@@ -38,7 +40,8 @@ pub(crate) fn field_alignment(earlier: &LaidTypes, field: &Field) -> u8
 
 // The alignment of a single field of this size, or of an array's element.
 fn base_alignment(earlier: &LaidTypes, base: Base, size: u32) -> u8
-    ensures value { result ≡ part_alignment earlier.now.profile size (part_of (trees earlier.now.types) base) }
+    ensures value { result ≡ part_alignment earlier.now.profile size
+        (part_of (trees earlier.now.types) base) }
     ensures positive { IsTrue (is_number_size base size) → 0 < result }
 {
     match base {

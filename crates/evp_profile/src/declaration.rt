@@ -6,8 +6,8 @@ pub struct Decl {
     /// 1 to 64 letters, digits and `_`, the first no digit; no earlier field of the type has it.
     pub name: String,
     /// `integer`, `unsigned integer`, `char`, `boolean`, `enumeration`, `string` or the name of an
-    /// earlier type, and behind it nothing, `[N]` with N from 1 to 65,536, or `[name]` with the name
-    /// of the field that counts the elements.
+    /// earlier type, and behind it nothing, `[N]` with N from 1 to 65,536, or `[name]` with the
+    /// name of the field that counts the elements.
     pub type_text: String,
     /// Bytes of a number or of an array's element; ignored for strings and nested records.
     pub size: u32,

@@ -75,7 +75,8 @@ impl LaidTypes {
     pub(crate) fn push(&mut self, record_type: RecordType) -> Result<(), LayoutFault>
         requires room { length self.old.types < 64 }
         requires follows { MayFollow (pointer_size self.old.profile) self.old.types record_type }
-        ensures pushed { IfOk result (λ _. self.new ≡ laid_so_far self.old.profile (self.old.types ++ record_type ∷ [])) }
+        ensures pushed { IfOk result (λ _. self.new
+            ≡ laid_so_far self.old.profile (self.old.types ++ record_type ∷ [])) }
         ensures kept { IfErr result (λ fault. fault ≡ Memory) }
     {
         let number = usize::from(self.types.number());
@@ -88,7 +89,8 @@ impl LaidTypes {
     /// The format of these types.
     pub(crate) fn into_format(self, alloc: Global) -> Result<Format, evp_base::Memory>
         requires { 1 ≤ length self.types }
-        ensures { IfOk result (λ format. format ≡ layout_with (byte_order self.profile) (pointer_size self.profile) self.types) }
+        ensures { IfOk result (λ format. format ≡ layout_with (byte_order self.profile)
+            (pointer_size self.profile) self.types) }
     {
         self.types.into_format(alloc, self.profile.byte_order())
     }

@@ -17,19 +17,19 @@ use evp_format::{Fields, Format, LayoutFault, RecordType, Which};
 use std::alloc::Global;
 
 /// The format of the declared types as a C compiler lays them out for a machine (C99, section
-/// 6.7.2.1, leaves the padding to the machine): a field stands at the least multiple of its alignment
-/// at or after the end of the one before it, and a type's length is rounded up to its greatest
-/// alignment. A number's alignment is its size, but no more than the machine's greatest; a string's
-/// or a counted array's is a pointer's, a nested record's is its greatest field's, a static array's is
-/// its element's.
+/// 6.7.2.1, leaves the padding to the machine): a field stands at the least multiple of its
+/// alignment at or after the end of the one before it, and a type's length is rounded up to its
+/// greatest alignment. A number's alignment is its size, but no more than the machine's greatest; a
+/// string's or a counted array's is a pointer's, a nested record's is its greatest field's, a
+/// static array's is its element's.
 ///
 /// Otherwise the first fault, type by type, and in a type field by field:
 /// - `Limit(Types, n)` unless there are 1 to 64 types;
-/// - a type's `BadName` and `TypeTwice`, then `Limit(Fields, n)` unless it has 1 to 1,024 fields, and
-///   `Limit(AllFields, n)` where all types so far have more than 4,096;
+/// - a type's `BadName` and `TypeTwice`, then `Limit(Fields, n)` unless it has 1 to 1,024 fields,
+///   and `Limit(AllFields, n)` where all types so far have more than 4,096;
 /// - a field's `BadName`, `Twice`, `TypeText`, `Float`, `UnknownType`, `Size`, `Default`;
-/// - at a type's end `CountField`, `CountDefault`, `Limit(Nesting, n)`, and `Limit(Length, n)` where
-///   its length is above 65,536, n being 2^32 - 1 for one that is more.
+/// - at a type's end `CountField`, `CountDefault`, `Limit(Nesting, n)`, and `Limit(Length, n)`
+///   where its length is above 65,536, n being 2^32 - 1 for one that is more.
 ///
 /// `Memory` where the format could not be stored.
 pub fn lay_out(alloc: Global, profile: Profile, types: &[TypeDecl]) -> Result<Format, LayoutFault>
@@ -55,7 +55,8 @@ fn laid_types(
 ) -> Result<LaidTypes, LayoutFault>
     requires few { length declared.now ≤ 64 }
     requires fields { All (λ declared. length declared.fields.items < 2 ^ 32) declared.now }
-    ensures value { Gives (λ laid. laid.types) result (laid_types profile [] (types_declared declared.now)) }
+    ensures value { Gives (λ laid. laid.types) result
+        (laid_types profile [] (types_declared declared.now)) }
     ensures profile { IfOk result (λ laid. laid.profile ≡ profile) }
     ensures number { IfOk result (λ laid. length laid.types ≡ length declared.now) }
 {
@@ -75,7 +76,8 @@ fn laid_type(
     declared: &TypeDecl,
 ) -> Result<RecordType, LayoutFault>
     requires { length declared.now.fields.items < 2 ^ 32 }
-    ensures { Gives (λ type. type) result (laid_type earlier.now.profile earlier.now.types (type_declared declared.now)) }
+    ensures { Gives (λ type. type) result
+        (laid_type earlier.now.profile earlier.now.types (type_declared declared.now)) }
 {
     let types = earlier.so_far();
     let name = types.type_name(declared.name.as_bytes())?;
@@ -93,7 +95,8 @@ fn placed_type(
     unplaced: &RecordType,
 ) -> Result<RecordType, LayoutFault>
     requires { All HasNumberSize unplaced.now.fields }
-    ensures { Gives (λ type. type) result (within_length (placed_type earlier.now.profile (trees earlier.now.types) unplaced.now)) }
+    ensures { Gives (λ type. type) result
+        (within_length (placed_type earlier.now.profile (trees earlier.now.types) unplaced.now)) }
 {
     let fields = unplaced.fields.as_slice();
     let length = length_of_fields(earlier, fields);

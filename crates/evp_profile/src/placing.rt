@@ -3,7 +3,8 @@
 ghost use Rattle.std.specs.Prelude.{◌≡◌, ◌+◌, ◌<◌, ◌≤◌, min, IfOk, All};
 ghost use Rattle.std.specs.Int.{next_multiple_of};
 ghost use Rattle.evp_format.specs.Tree.{trees};
-ghost use Rattle.evp_profile.specs.Placing.{offset_behind, end_behind, end_of_fields, length_of_fields, placed_fields};
+ghost use Rattle.evp_profile.specs.Placing.{offset_behind, end_behind, end_of_fields};
+ghost use Rattle.evp_profile.specs.Placing.{length_of_fields, placed_fields};
 ghost use Rattle.evp_profile.specs.Sizes.{HasNumberSize};
 
 use crate::alignment::{field_alignment, fields_alignment};
@@ -15,7 +16,8 @@ use std::alloc::{AllocError, Global};
 /// 2^32 - 1, where they are more.
 pub(crate) fn length_of_fields(earlier: &LaidTypes, fields: &[Field]) -> u32
     requires { All HasNumberSize fields.now }
-    ensures { result ≡ min (length_of_fields earlier.now.profile (trees earlier.now.types) fields.now) 4294967295 }
+    ensures { result ≡ min (length_of_fields earlier.now.profile (trees earlier.now.types)
+        fields.now) 4294967295 }
 {
     let end = end_of_fields(earlier, fields);
     let alignment = fields_alignment(earlier, fields);
@@ -26,7 +28,8 @@ pub(crate) fn length_of_fields(earlier: &LaidTypes, fields: &[Field]) -> u32
 // The end of the last field, or 2^32 - 1, where it is more.
 fn end_of_fields(earlier: &LaidTypes, fields: &[Field]) -> u32
     requires { All HasNumberSize fields.now }
-    ensures { result ≡ min (end_of_fields earlier.now.profile (trees earlier.now.types) 0 fields.now) 4294967295 }
+    ensures { result ≡ min (end_of_fields earlier.now.profile (trees earlier.now.types) 0
+        fields.now) 4294967295 }
 {
     let mut end = 0;
     for field in fields {
@@ -50,7 +53,8 @@ fn end_behind(earlier: &LaidTypes, end: u32, field: &Field) -> u64
 // The least multiple of the field's alignment at or after `end`.
 fn offset_behind(earlier: &LaidTypes, end: u32, field: &Field) -> u64
     requires { HasNumberSize field.now }
-    ensures value { result ≡ offset_behind earlier.now.profile (trees earlier.now.types) end field.now }
+    ensures value { result ≡ offset_behind earlier.now.profile (trees earlier.now.types) end
+        field.now }
     ensures bound { result < end + 256 }
 {
     u64::from(end).next_multiple_of(u64::from(field_alignment(earlier, field)))
@@ -63,8 +67,10 @@ pub(crate) fn placed_fields(
     fields: &[Field],
 ) -> Result<Vec<Field>, AllocError>
     requires sized { All HasNumberSize fields.now }
-    requires short { end_of_fields earlier.now.profile (trees earlier.now.types) 0 fields.now ≤ 65536 }
-    ensures { IfOk result (λ placed. placed.items ≡ placed_fields earlier.now.profile (trees earlier.now.types) 0 fields.now) }
+    requires short { end_of_fields earlier.now.profile (trees earlier.now.types) 0 fields.now ≤
+        65536 }
+    ensures { IfOk result (λ placed. placed.items ≡ placed_fields earlier.now.profile
+        (trees earlier.now.types) 0 fields.now) }
 {
     let mut placed = Vec::with_capacity(alloc, fields.len())?;
     let mut end = 0;

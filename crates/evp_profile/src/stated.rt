@@ -16,7 +16,8 @@ pub(crate) fn stated_fields(
     declared: &[Decl],
 ) -> Result<Vec<DraftField>, LayoutFault>
     requires { length declared.now ≤ 1024 }
-    ensures value { Gives (λ drafts. drafts.items) result (stated_fields types.now.pointer types.now.types [] (fields_declared declared.now)) }
+    ensures value { Gives (λ drafts. drafts.items) result
+        (stated_fields types.now.pointer types.now.types [] (fields_declared declared.now)) }
     ensures number { IfOk result (λ drafts. length drafts.items ≡ length declared.now) }
 {
     let mut drafts = Vec::with_capacity(alloc, declared.len())?;
@@ -35,7 +36,8 @@ fn stated_field(
     declared: &Decl,
 ) -> Result<DraftField, LayoutFault>
     requires { length before.now < 1024 }
-    ensures { result ≡ stated_field types.now.pointer types.now.types before.now (field_declared declared.now) }
+    ensures { result ≡ stated_field types.now.pointer types.now.types before.now
+        (field_declared declared.now) }
 {
     let number = before.len() as u16;
     let name = types.field_name(before, declared.name.as_bytes())?;

@@ -20,7 +20,8 @@ fn declared(
     defaults: &[i128],
 ) -> Result<Vec<TypeDecl>, AllocError>
     ensures few { IfOk result (λ types. length types.items ≤ 64) }
-    ensures fields { IfOk result (λ types. All (λ declared. length declared.fields.items < 2 ^ 32) types.items) }
+    ensures fields { IfOk result (λ types. All (λ declared. length declared.fields.items < 2 ^ 32)
+        types.items) }
 {
     let mut types = Vec::new(alloc);
     let structs = &structs[..structs.len().min(64)];

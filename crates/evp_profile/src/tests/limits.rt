@@ -28,7 +28,8 @@ const DEEP: [(u16, Option<LayoutFault>); 2] = [
 // So many types, each of so many chars.
 fn wide(alloc: Global, types: u16, fields: u16) -> Result<Vec<TypeDecl>, AllocError>
     ensures few { IfOk result (λ types. length types.items < 2 ^ 32) }
-    ensures fields { IfOk result (λ types. All (λ declared. length declared.fields.items < 2 ^ 32) types.items) }
+    ensures fields { IfOk result (λ types. All (λ declared. length declared.fields.items < 2 ^ 32)
+        types.items) }
 {
     let mut declared = Vec::new(alloc);
     for number in 0..types {
@@ -54,7 +55,8 @@ fn wide_type(alloc: Global, number: u16, fields: u16) -> Result<TypeDecl, AllocE
 // So many types, each but the first with a field of the one before.
 fn deep(alloc: Global, types: u16) -> Result<Vec<TypeDecl>, AllocError>
     ensures few { IfOk result (λ types. length types.items < 2 ^ 32) }
-    ensures fields { IfOk result (λ types. All (λ declared. length declared.fields.items < 2 ^ 32) types.items) }
+    ensures fields { IfOk result (λ types. All (λ declared. length declared.fields.items < 2 ^ 32)
+        types.items) }
 {
     let mut declared = Vec::new(alloc);
     for number in 0..types {

@@ -5,6 +5,8 @@ use Rattle.evp_profile.proofs.placing.placed_fields.Given as goal
 
 abbrev pub invariant-loop-field : goal.invariant-loop-field
 invariant-loop-field l = record {
-  end : end_of_fields l.earlier.profile (trees l.earlier.types) l.end (drop l.field-index l.fields) ≡ end_of_fields l.earlier.profile (trees l.earlier.types) 0 l.fields;
-  placed : l.placed.items ++ placed_fields l.earlier.profile (trees l.earlier.types) l.end (drop l.field-index l.fields) ≡ placed_fields l.earlier.profile (trees l.earlier.types) 0 l.fields;
+  end : end_of_fields l.earlier.profile (trees l.earlier.types) l.end (drop l.field-index l.fields)
+      ≡ end_of_fields l.earlier.profile (trees l.earlier.types) 0 l.fields;
+  placed : l.placed.items ++ placed_fields l.earlier.profile (trees l.earlier.types) l.end (drop l.field-index l.fields)
+      ≡ placed_fields l.earlier.profile (trees l.earlier.types) 0 l.fields;
 }

@@ -11,8 +11,12 @@ returns-in_err-draft-clause-value c =
     let earlier = c.args.types.now.types in
     let declared = c.args.declared.now in
     let fault = c.in_err-draft.field-0.0 in
-    let refused : Err fault ≡ stated_field c.args.types.now.pointer earlier c.loop-field.drafts.items (field_declared c.field-item.result) = c.in_err-draft.ensures ∙ ap (λ (before : List DraftField). stated_field c.args.types.now.pointer earlier before (field_declared c.field-item.result)) c.deref.ensures.value in
-    let stops = field_stops c.args.types.now.pointer earlier declared c.loop-field.field-index c.field-item.result fault c.loop-field.drafts.items (stated_fields c.args.types.now.pointer earlier [] (fields_declared declared)) c.loop-field-test.true c.field-item.is refused c.loop-field.invariant.stated in
+    let refused : Err fault ≡ stated_field c.args.types.now.pointer earlier c.loop-field.drafts.items (field_declared c.field-item.result) =
+    c.in_err-draft.ensures ∙ ap (λ (before : List DraftField). stated_field c.args.types.now.pointer earlier before
+    (field_declared c.field-item.result)) c.deref.ensures.value in
+    let stops = field_stops c.args.types.now.pointer earlier declared c.loop-field.field-index c.field-item.result fault
+    c.loop-field.drafts.items (stated_fields c.args.types.now.pointer earlier [] (fields_declared declared)) c.loop-field-test.true
+    c.field-item.is refused c.loop-field.invariant.stated in
     let p = err_from_is_err_and c.from_residual-in_err-draft.result c.from_residual-in_err-draft.ensures.1 in rw (p.1, p.2) (λ _. stops)
 
 pub loop-field-preserved : goal.loop-field-preserved
@@ -20,9 +24,14 @@ loop-field-preserved c =
     let earlier = c.args.types.now.types in
     let declared = c.args.declared.now in
     let total = stated_fields c.args.types.now.pointer earlier [] (fields_declared declared) in
-    let stated : Ok c.in_ok-draft.draft ≡ stated_field c.args.types.now.pointer earlier c.loop-field.drafts.items (field_declared c.field-item.result) = c.in_ok-draft.ensures ∙ ap (λ (before : List DraftField). stated_field c.args.types.now.pointer earlier before (field_declared c.field-item.result)) c.deref.ensures.value in
+    let stated : Ok c.in_ok-draft.draft ≡ stated_field c.args.types.now.pointer earlier c.loop-field.drafts.items
+    (field_declared c.field-item.result) = c.in_ok-draft.ensures ∙ ap
+    (λ (before : List DraftField). stated_field c.args.types.now.pointer earlier before (field_declared c.field-item.result))
+    c.deref.ensures.value in
     record {
-      stated = rw c.in_ok-push.ensures.items (field_goes_on c.args.types.now.pointer earlier declared c.loop-field.field-index c.field-item.result c.in_ok-draft.draft c.loop-field.drafts.items total c.loop-field-test.true c.field-item.is stated c.loop-field.invariant.stated);
+      stated = rw c.in_ok-push.ensures.items (field_goes_on c.args.types.now.pointer earlier declared c.loop-field.field-index
+          c.field-item.result c.in_ok-draft.draft c.loop-field.drafts.items total c.loop-field-test.true c.field-item.is stated
+          c.loop-field.invariant.stated);
       number = grind arith;
     }
 
@@ -30,4 +39,5 @@ pub returns-clause-value : goal.returns-clause-value
 returns-clause-value c =
     let earlier = c.args.types.now.types in
     let declared = c.args.declared.now in
-    fields_end c.args.types.now.pointer earlier declared c.loop-field.field-index c.loop-field.drafts.items (stated_fields c.args.types.now.pointer earlier [] (fields_declared declared)) c.loop-field-test.false c.loop-field.invariant.stated
+    fields_end c.args.types.now.pointer earlier declared c.loop-field.field-index c.loop-field.drafts.items
+    (stated_fields c.args.types.now.pointer earlier [] (fields_declared declared)) c.loop-field-test.false c.loop-field.invariant.stated

@@ -26,5 +26,6 @@ invariant_of-self-2 c =
     c.fields_alignment-alignment.ensures.value
     ∙ ap (λ (s : LaidSoFar). fields_alignment s.profile (trees s.types) c.as_slice.result.now) (sym c.self.view_is)
     ∙ ap (fields_alignment inside.profile (trees types)) c.as_slice.ensures in
-    aligned_on inside.profile inside.types c.push.new.self type inside.alignments c.from-number.result c.fields_alignment-alignment.result c.self.invariant
+    aligned_on inside.profile inside.types c.push.new.self type inside.alignments c.from-number.result c.fields_alignment-alignment.result
+    c.self.invariant
     c.in_ok-push.ensures.pushed c.in_ok-push.ensures.laid room long last own

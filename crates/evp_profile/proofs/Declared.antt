@@ -72,7 +72,8 @@ names_placed profile known end [] c = refl
 names_placed profile known end (field ∷ fields) zero = refl
 names_placed profile known end (field ∷ fields) (suc c) = names_placed profile known (end_behind profile known end field) fields c
 
-shape_placed : (all placed : List Field) (shape : Shape) → ((c : ℕ) → field_name placed c ≡ field_name all c) → shape_text placed shape
+-- shapes are spelled by the names of fields
+pub shape_placed : (all placed : List Field) (shape : Shape) → ((c : ℕ) → field_name placed c ≡ field_name all c) → shape_text placed shape
     ≡ stated_shape_text (stated_shape all shape)
 shape_placed all placed One same = refl
 shape_placed all placed (Fixed n) same = refl

@@ -47,6 +47,7 @@ use Rattle.evp_profile.specs.Placing.{field_at, offset_behind, end_behind, end_o
 use Rattle.evp_profile.specs.Profile.{pointer_size}
 use Rattle.evp_profile.proofs.Multiples.{next_multiple_is_least, first_multiple}
 use Rattle.evp_profile.proofs.PlacedTypes.{field_alignment_positive, placed_last}
+use Rattle.evp_profile.proofs.Declared.{shape_placed}
 use Rattle.evp_profile.proofs.Alignments.{branches_alignment_positive}
 use Rattle.evp_profile.proofs.LaidOut.{number_size}
 use Rattle.evp_profile.proofs.TypesPushed.{depth-placed_fields, alignment-placed_fields}
@@ -57,18 +58,10 @@ abbrev pub at_start : List Field → List Field
 at_start [] = []
 at_start (field ∷ fields) = field_at 0 field ∷ at_start fields
 
-length-at_start : (fields : List Field) → length (at_start fields) ≡ length fields
-length-at_start [] = refl
-length-at_start (field ∷ fields) = ap suc (length-at_start fields)
-
 names-at_start : (fields : List Field) (c : ℕ) → field_name (at_start fields) c ≡ field_name fields c
 names-at_start [] c = refl
 names-at_start (field ∷ fields) zero = refl
 names-at_start (field ∷ fields) (suc c) = names-at_start fields c
-
-append-at_start : (front rest : List Field) → at_start (front ++ rest) ≡ at_start front ++ at_start rest
-append-at_start [] rest = refl
-append-at_start (field ∷ front) rest = ap (λ (some : List Field). field_at 0 field ∷ some) (append-at_start front rest)
 
 from_start : (fields : List Field) (k : ℕ) (start : Field) → slice_get (at_start fields) k ≡ Some start → (field : Field)
     × (slice_get fields k ≡ Some field) × (field_at 0 field ≡ start)
@@ -111,11 +104,6 @@ start_default fields k field (inr states) = inr (record
 
 -- ---- they are stated
 
-shape_start : (all : List Field) (shape : Shape) → shape_text all shape ≡ stated_shape_text (stated_shape (at_start all) shape)
-shape_start all One = refl
-shape_start all (Fixed n) = refl
-shape_start all (Counted c) = ap (λ (name : List ℕ). stated_shape_text (draft.Counted name)) (sym (names-at_start all c))
-
 size_again_meant : (pointer : ℕ) (earlier : List RecordType) (base : Base) (size declared : ℕ) → HasBaseSize pointer earlier base size
     → HasDeclaredSize base size declared
     → size_meant pointer earlier base declared ≡ size
@@ -143,7 +131,7 @@ field_again pointer earlier room all k field before declared names laid named fr
     let shaped = laid_stated_shape start field.shape (start_shape all field.shape laid.shape_allowed) start_named in
     let known = laid_known pointer earlier field.base field.size laid.size_allowed in
     let text : declared.type_text ≡ base_word earlier field.base ++ stated_shape_text shape = sym is.says
-    ∙ ap (λ (t : List ℕ). base_word earlier field.base ++ t) (shape_start all field.shape) in
+    ∙ ap (λ (t : List ℕ). base_word earlier field.base ++ t) (shape_placed start all field.shape (λ c. sym (names-at_start all c))) in
     let name_passes : new_field_name type before declared.name ≡ Ok field.name = ap (new_field_name type before) (sym is.named)
     ∙ field_name_again type before field.name laid.named fresh in
     let text_passes : type_text_of earlier type number declared.type_text ≡ Ok said = ap (type_text_of earlier type number) text

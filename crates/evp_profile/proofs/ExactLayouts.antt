@@ -17,7 +17,7 @@ use Rattle.evp_format.proofs.StatedFields.{slice_get-seam}
 use Rattle.evp_format.proofs.WellLaidTypes.{bind_ok, passed, ok_is, done}
 use Rattle.evp_profile.specs.declared.profile.Profile.{Profile}
 use Rattle.evp_profile.specs.CLayout.{IsLaidInC, IsCLayout}
-use Rattle.evp_profile.specs.DeclarationLaws.{AreDeclaredTypes, IsLayoutOf, LayoutsAreExact}
+use Rattle.evp_profile.specs.DeclarationLaws.{AreDeclaredTypes, IsLayoutOf, IsOnlyLayoutOf, LayoutsAreExact}
 use Rattle.evp_profile.specs.Declarations.{DeclaredType}
 use Rattle.evp_profile.specs.LayingOut.{laid_types, type_count, by_profile}
 use Rattle.evp_profile.specs.Profile.{byte_order, pointer_size}
@@ -94,9 +94,13 @@ layout_again profile declared layout is =
 
 -- ---- the law
 
-exact_step : (profile : Profile) (declared : List DeclaredType) (answer : Result Layout LayoutFault) → by_profile profile declared ≡ answer
-    → MatchResult answer (IsLayoutOf profile declared) (λ fault. (layout : Layout) → ¬ IsLayoutOf profile declared layout)
-exact_step profile declared (Ok layout) is = layout_is profile declared layout is
+exact_step : (profile : Profile) (declared : List DeclaredType) (answer : Result Layout LayoutFault)
+    → by_profile profile declared ≡ answer
+    → MatchResult answer (IsOnlyLayoutOf profile declared) (λ fault. (layout : Layout) → ¬ IsLayoutOf profile declared layout)
+exact_step profile declared (Ok layout) is = record {
+  is = layout_is profile declared layout is;
+  only = λ other of. ok_is other layout (sym (layout_again profile declared other of) ∙ is);
+}
 exact_step profile declared (Err fault) is = λ layout of. let both = sym is ∙ layout_again profile declared layout of in absurd (cc)
 
 pub exact_law : LayoutsAreExact

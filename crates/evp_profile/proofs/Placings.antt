@@ -42,26 +42,6 @@ end_from profile trees fields k end behind total field below is stands so_far =
     let grows = end_of_fields_grows profile trees behind (drop (k + 1) fields) in
     omega (arith, more, grows)
 
--- the placed fields, one field on
-pub placed_more : (profile : Profile) (trees : List Tree) (fields front all : List Field) (k end offset behind : ℕ) (field : Field)
-    → k < length fields → field ≡ get_or fields k field
-    → offset ≡ offset_behind profile trees end field → behind ≡ end_behind profile trees end field
-    → front ++ placed_fields profile trees end (drop k fields) ≡ all
-    → (front ++ field_at offset field ∷ []) ++ placed_fields profile trees behind (drop (k + 1) fields) ≡ all
-placed_more profile trees fields front all k end offset behind field below is stands ends so_far =
-    append_assoc front (field_at offset field ∷ []) (placed_fields profile trees behind (drop (k + 1) fields))
-    ∙ ap (λ (n : ℕ). front ++ field_at n field ∷ placed_fields profile trees behind (drop (k + 1) fields)) stands
-    ∙ ap (λ (n : ℕ). front ++ field_at (offset_behind profile trees end field) field ∷ placed_fields profile trees n (drop (k + 1) fields))
-    ends
-    ∙ ap (λ (some : List Field). front ++ some) (sym (next_left (placed_fields profile trees end) fields k field below is))
-    ∙ so_far
-
-pub placed_all : (profile : Profile) (trees : List Tree) (fields front all : List Field) (k end : ℕ) → length fields ≤ k → front
-    ++ placed_fields profile trees end (drop k fields) ≡ all → front ≡ all
-placed_all profile trees fields front all k end past so_far =
-    sym (append-nil front) ∙ ap (λ (some : List Field). front ++ some) (sym (at_drop_all (placed_fields profile trees end) fields k past))
-    ∙ so_far
-
 pub length-placed_fields : (profile : Profile) (trees : List Tree) (end : ℕ) (fields : List Field)
     → length (placed_fields profile trees end fields) ≡ length fields
 length-placed_fields profile trees end [] = refl

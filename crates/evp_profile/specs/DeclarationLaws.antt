@@ -59,8 +59,14 @@ pub record IsLayoutOf (profile : Profile) (declared : List DeclaredType) (layout
     pub in_c : IsCLayout profile layout
     pub types : AreDeclaredTypes [] declared layout.types
 
--- what is answered is such a layout, and where a fault is, there is none
+-- the only one
+pub record IsOnlyLayoutOf (profile : Profile) (declared : List DeclaredType) (layout : Layout)
+    : Type 0 where
+  pub is : IsLayoutOf profile declared layout
+  pub only : (other : Layout) → IsLayoutOf profile declared other → other ≡ layout
+
+-- what is answered is the only such layout, and where a fault is, there is none
 abbrev pub LayoutsAreExact : Type 0
 LayoutsAreExact = (profile : Profile) (declared : List DeclaredType)
-    → MatchResult (by_profile profile declared) (IsLayoutOf profile declared)
+    → MatchResult (by_profile profile declared) (IsOnlyLayoutOf profile declared)
     (λ fault. (layout : Layout) → ¬ IsLayoutOf profile declared layout)

@@ -20,7 +20,7 @@ use Rattle.evp_format.specs.Tree.{Tree, part_of, branches_of, resolved, trees, t
 use Rattle.evp_format.specs.WellLaid.{IsWellLaid, IsLaidField, HasBaseSize, HasShape, extent, shape_extent, depth, part_depth, branches_depth}
 use Rattle.evp_format.specs.Bytes.{bytes_at}
 use Rattle.evp_format.specs.Viewing.{field_number, image_of}
-use Rattle.evp_format.proofs.Trees.{tree_of-resolved, slice_get-below}
+use Rattle.evp_format.proofs.Trees.{tree_of-resolved, slice_get-below, slice_get-take, found_below}
 use Rattle.evp_record.specs.Class.{field_at, fields_in, type_fields}
 use Rattle.evp_record.specs.Walks.{all_branches, part_in, branches_in, count_number, IsCountAt, IsCountedAt}
 use Rattle.evp_record.specs.declared.spot.Spot.{Spot}
@@ -124,12 +124,6 @@ pub sized_among_all : (pointer : ℕ) (types : List RecordType) (k : ℕ) (base 
 sized_among_all pointer types k (Number kind) size sized = sized
 sized_among_all pointer types k Text size sized = sized
 sized_among_all pointer types k (Nested n) size sized = (sized.0, slice_get-take types k n sized.0 sized.1, sized.2)
-  where
-    slice_get-take : (xs : List RecordType) (k n : ℕ) (x : RecordType) → slice_get (take k xs) n ≡ Some x → slice_get xs n ≡ Some x
-    slice_get-take xs zero n x found = cc
-    slice_get-take [] (suc k) n x found = cc
-    slice_get-take (y ∷ xs) (suc k) zero x found = found
-    slice_get-take (y ∷ xs) (suc k) (suc n) x found = slice_get-take xs k n x found
 
 -- a nested type is there, of the size of the field's elements
 pub record NestedAt (layout : Layout) (m size : ℕ) : Type 0 where
@@ -186,11 +180,6 @@ depth_of_part layout n k field at =
     let whole : depth (tree_of layout n) ≡ suc (branches_depth (branches_of (trees layout.types) at.type.fields)) = ap depth at.tree in
     let part = part_depth-branches_of (trees layout.types) at.type.fields k field at.field_there in
     omega (arith, whole, part)
-
-pub found_below : {A : Type 0} (xs : List A) (k : ℕ) → k < length xs → (x : A) × (slice_get xs k ≡ Some x)
-found_below [] k below = absurd (omega arith)
-found_below (x ∷ xs) zero below = (x, refl)
-found_below (x ∷ xs) (suc k) below = found_below xs k (omega arith)
 
 -- below the number of fields there is one
 pub field_below : (layout : Layout) (n k : ℕ) → k < length (type_fields layout n) → (field : Field) × (field_at layout n k ≡ Some field)

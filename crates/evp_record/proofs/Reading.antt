@@ -24,9 +24,9 @@ use Rattle.evp_record.specs.Record.{Record, value_or_null}
 use Rattle.evp_record.specs.Spots.{IsReached, walk_at, value_at, part_at, part_value, value_there, IsPartAt, start_by, elements_start}
 use Rattle.evp_record.specs.Walks.{all_branches, branches_in, part_in, walk_field, walk_part, walk_elements, count_number}
 use Rattle.evp_record.specs.declared.spot.Spot.{Spot}
-use Rattle.evp_format.proofs.Trees.{tree_of-resolved}
+use Rattle.evp_format.proofs.Trees.{tree_of-resolved, found_below}
 use Rattle.evp_record.proofs.Entries.{name_at, entries_in, entries_count}
-use Rattle.evp_record.proofs.Laid.{found_below, type_fields-found, LaidAt, laid_at, inside, extent_of_one, extent_of_fixed, sized_among_all, nested_at, count_below}
+use Rattle.evp_record.proofs.Laid.{type_fields-found, LaidAt, laid_at, inside, extent_of_one, extent_of_fixed, sized_among_all, nested_at, count_below}
 use Rattle.evp_record.proofs.Lowered.{ReadsAlike-part, viewed-alike}
 
 -- a walk in two steps that reads something read something in the first

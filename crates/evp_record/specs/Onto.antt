@@ -7,7 +7,8 @@ use Rattle.evp_format.specs.Layout.{Layout}
 use Rattle.evp_format.specs.Packing.{Pieces, put_pieces, machine_of, pack_tree, pack_part, pack_elements, pack_counted, pack_shaped}
 use Rattle.evp_format.specs.Typed.{IsShaped, IsOfPart}
 use Rattle.evp_format.specs.WellLaid.{HasBaseSize}
-use Rattle.evp_format.specs.Tree.{Part, part_of, trees, tree_of}
+use Rattle.evp_format.specs.Tree.{tree_of}
+pub use Rattle.evp_format.specs.Tree.{part_in}
 
 -- the bytes with zeros behind them, up to this size
 abbrev pub grown : List ℕ → ℕ → List ℕ
@@ -16,10 +17,6 @@ grown bytes size = bytes ++ replicate (size - length bytes) 0
 -- the bytes with room for the pieces' blocks, and the pieces on them
 abbrev pub onto : List ℕ → Pieces → List ℕ
 onto bytes pieces = put_pieces pieces.all (grown bytes pieces.size)
-
--- what an element of a field is
-abbrev pub part_in : Layout → Field → Part
-part_in layout field = part_of (trees layout.types) field.base
 
 -- the pieces of an element of a field, at `at`
 abbrev pub element_pieces : Layout → Field → ℕ → Datum → ℕ → Pieces
@@ -46,8 +43,8 @@ abbrev pub IsElementOf : Layout → Field → Datum → Type 0
 IsElementOf layout field datum = IsOfPart (part_in layout field) field.size datum
 
 -- the value of a field, in some record
-abbrev pub IsFieldOf : Layout → Field → Datum → Type 0
-IsFieldOf layout field datum = (all : Entries) × IsShaped all field.shape (IsElementOf layout field) datum
+abbrev pub IsValueOfField : Layout → Field → Datum → Type 0
+IsValueOfField layout field datum = (all : Entries) × IsShaped all field.shape (IsElementOf layout field) datum
 
 -- the elements of a field of this type are well laid
 pub record IsLaidElement (layout : Layout) (type_number : ℕ) (field : Field) : Type 0 where

@@ -6,7 +6,8 @@ use Rattle.evp_format.specs.declared.place.PlaceStep.{PlaceStep}
 use Rattle.evp_format.specs.declared.place.PlaceStep.TheVariants.{Nth}
 use Rattle.evp_format.specs.Datum.{Datum, Elements}
 use Rattle.evp_format.specs.Layout.{Layout}
-use Rattle.evp_format.specs.Tree.{Tree, tree, Branches, Part, part_of, trees, tree_of, branch_at}
+use Rattle.evp_format.specs.Tree.{Tree, tree, Branches, tree_of, branch_at}
+pub use Rattle.evp_format.specs.Tree.{part_in}
 use Rattle.evp_format.specs.Viewing.{Walked, view_tree, view_string, view_part, view_shaped, view_elements, view_counted, image_of, pointer_at, field_number}
 use Rattle.evp_format.specs.WellLaid.{CountsElements}
 use Rattle.evp_record.specs.Class.{field_at}
@@ -18,10 +19,6 @@ branches_in (tree length branches) = branches
 -- the fields of the type of this number, each with what it or each of its elements is
 abbrev pub all_branches : Layout → ℕ → Branches
 all_branches layout type_number = branches_in (tree_of layout type_number)
-
--- what a field, or each of its elements, is
-abbrev pub part_in : Layout → Field → Part
-part_in layout field = part_of (trees layout.types) field.base
 
 -- the record at the spot
 abbrev pub walk_record : Layout → List ℕ → Spot → List PlaceStep → ℕ → Walked Datum

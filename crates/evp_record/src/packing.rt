@@ -9,7 +9,7 @@ ghost use Rattle.evp_format.specs.Tree.{tree_of, length_of};
 ghost use Rattle.evp_format.specs.Typed.{IsOf, IsOfTree, EachElement};
 ghost use Rattle.evp_format.specs.ValueView.{datum_of, elements_of_values, entries_of_pairs};
 ghost use Rattle.evp_format.specs.WellLaid.{extent};
-ghost use Rattle.evp_record.specs.Onto.{onto, element_pieces, list_pieces, counted_pieces, field_pieces, record_pieces, IsElementOf, IsFieldOf, IsLaidElement, AreSmall};
+ghost use Rattle.evp_record.specs.Onto.{onto, element_pieces, list_pieces, counted_pieces, field_pieces, record_pieces, IsElementOf, IsValueOfField, IsLaidElement, AreSmall};
 
 use crate::put::{grow, next_block, put_bytes, put_digits};
 use evp_base::{Memory, Name};
@@ -67,7 +67,7 @@ fn pack_field(
     at: usize,
 ) -> Result<(), Memory>
     requires laid { IsLaidElement format.now type_number field.now }
-    requires of_type { IsFieldOf format.now field.now (datum_of value.now) }
+    requires of_type { IsValueOfField format.now field.now (datum_of value.now) }
     requires inside { at + field.now.offset + extent format.now.pointer field.now ≤ length out.old.items }
     requires small { AreSmall (field_pieces format.now field.now at (datum_of value.now) (length out.old.items)) }
     ensures { OnOk result (out.new.items ≡ onto out.old.items (field_pieces format.now field.now at (datum_of value.now) (length out.old.items))) }

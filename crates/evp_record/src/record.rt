@@ -7,7 +7,7 @@ ghost use Rattle.evp_record.specs.Record.{IsRecord, record_of};
 
 use crate::Spot;
 use crate::marker::Marker;
-use crate::walk::check_record;
+use crate::walk::Walk;
 use evp_format::{Broken, Format, Place};
 use std::marker::Model;
 
@@ -64,7 +64,8 @@ fn first_fault(format: &Format, bytes: &[u8]) -> Broken
         type_number: (format.types().len() - 1) as u16,
         at: 0,
     };
-    match check_record(format, bytes, root, &Place::root(), length) {
+    let walk = Walk { format, bytes };
+    match walk.record(root, &Place::root(), length) {
         Err(fault) => fault,
         Ok(_) => unreachable!(),
     }

@@ -2,7 +2,7 @@ ghost use Rattle.std.specs.Prelude.{◌≡◌};
 ghost use Rattle.evp_record.specs.Samples.{list_description, list_bytes};
 
 use super::*;
-use evp_format::{Items, Members, Value, read_description};
+use evp_format::{BrokenText, Items, Members, Value, read_description};
 use std::alloc::{AllocError, Global};
 use std::test::Fail;
 
@@ -47,57 +47,57 @@ const NESTED: &[u8] =
     b"NDF1\0\x04\0\x02\x01e\0\0\0\x08\0\x02\x01k\x07integer\0\0\0\x04\0\0\0\0\x01s\x06string\0\0\0\x04\0\0\0\x04\x01r\0\0\0\x10\0\x03\x01o\x01e\0\0\0\x08\0\0\0\0\x01l\x04e[n]\0\0\0\x08\0\0\0\x08\x01n\x07integer\0\0\0\x04\0\0\0\x0c";
 
 const CHECKS: [(&[u8], &[u8], &str); 16] = [
-    (TEXTS, b"\n\0\0\0\x08\0\0\0a\0b\0", "block place [At(1)]"),
-    (NUMBER, b"\x07\0\0", "short record []"),
-    (TEXT, b"\x04\0\0\0a", "no end [At(0)]"),
+    (TEXTS, b"\n\0\0\0\x08\0\0\0a\0b\0", "block place t"),
+    (NUMBER, b"\x07\0\0", "short record"),
+    (TEXT, b"\x04\0\0\0a", "no end s"),
     (
         LIST,
         b"\x08\0\0\0\x05\0\0\0\x05\0\0\0\x05\0\0\0\x05\0\0\0\x05\0\0\0",
-        "block place [At(0)]",
+        "block place a",
     ),
     (
         LIST,
         b"\x08\0\0\0\xff\xff\xff\xff\x05\0\0\0",
-        "negative count [At(0)]",
+        "negative count a",
     ),
-    (LIST, b"\0\0\0\0\x01\0\0\0\x05\0\0\0", "null list [At(0)]"),
-    (TEXTS, b"\x08\0\0\0\x08\0\0\0a\0b\0", "block place [At(1)]"),
-    (TEXTS, b"\x07\0\0\0\0\0\0\0a\0b", "block place [At(0)]"),
-    (TEXTS, b"\x0b\0\0\0\0\0\0\0a\0b", "block place [At(0)]"),
+    (LIST, b"\0\0\0\0\x01\0\0\0\x05\0\0\0", "null list a"),
+    (TEXTS, b"\x08\0\0\0\x08\0\0\0a\0b\0", "block place t"),
+    (TEXTS, b"\x07\0\0\0\0\0\0\0a\0b", "block place s"),
+    (TEXTS, b"\x0b\0\0\0\0\0\0\0a\0b", "block place s"),
     (
         WIDE_LIST,
         b"\0\0\0\0\0\0\0\x10\x7f\xff\xff\xff\xff\xff\xff\xff\0\0\0\0\0\0\0\x05",
-        "block place [At(0)]",
+        "block place a",
     ),
     (
         WIDE_LIST,
         b"\0\0\0\0\0\0\0\x10\xff\xff\xff\xff\xff\xff\xff\xff\0\0\0\0\0\0\0\x05",
-        "block place [At(0)]",
+        "block place a",
     ),
     (
         WIDE_LIST,
         b"\xff\xff\xff\xff\xff\xff\xff\xff\0\0\0\0\0\0\0\x01\0\0\0\0\0\0\0\x05",
-        "block place [At(0)]",
+        "block place a",
     ),
     (
         WIDE_LIST,
         b"\0\0\0\0\0\0\0\x11\0\0\0\0\0\0\0\x01\0\0\0\0\0\0\0\x05",
-        "block place [At(0)]",
+        "block place a",
     ),
     (
         PAIRS,
         b"\x01\0\0\0\0\0\0\0\x02\0\0\0\x10\0\0\0a",
-        "no end [At(0), Nth(1), At(1)]",
+        "no end p[1].s",
     ),
     (
         WORDS,
         b"\x02\0\0\0\x08\0\0\0\x10\0\0\0\x11\0\0\0\0",
-        "block place [At(1), Nth(1)]",
+        "block place v[1]",
     ),
     (
         NESTED,
         b"\x01\0\0\0\0\0\0\0\x10\0\0\0\x01\0\0\0\x02\0\0\0\x17\0\0\0",
-        "block place [At(1), Nth(0), At(1)]",
+        "block place l[0].s",
     ),
 ];
 
@@ -151,17 +151,6 @@ const VIEWS: [(&[u8], &[u8], &str); 15] = [
     ),
 ];
 
-// A fault's name and place.
-fn fault_text(alloc: Global, fault: &Broken) -> Result<String, AllocError> {
-    match fault {
-        Broken::ShortRecord => String::from_str(alloc, "short record []"),
-        Broken::NegativeCount(place) => format!(in alloc; "negative count {:?}", place.steps()),
-        Broken::NullList(place) => format!(in alloc; "null list {:?}", place.steps()),
-        Broken::BlockPlace(place) => format!(in alloc; "block place {:?}", place.steps()),
-        Broken::NoEnd(place) => format!(in alloc; "no end {:?}", place.steps()),
-    }
-}
-
 #[cycle(write)]
 fn write_value(alloc: Global, out: &mut String, value: &Value) -> Result<(), AllocError> {
     match value {
@@ -210,7 +199,7 @@ fn write_members(alloc: Global, out: &mut String, members: &Members) -> Result<(
 }
 
 #[test]
-fn first_faults_with_their_places(rt: HostRuntime) -> Result<(), Fail> {
+fn first_faults_with_their_paths(rt: HostRuntime) -> Result<(), Fail> {
     let alloc = rt.alloc();
     for (description, bytes, expected) in CHECKS {
         let format = read_description(alloc, description)
@@ -218,8 +207,12 @@ fn first_faults_with_their_places(rt: HostRuntime) -> Result<(), Fail> {
             .ok_or("description")?;
         assert!(rt; bytes.len() < 1000);
         let fault = check(&format, bytes).err().ok_or("a fault")?;
-        let text = fault_text(alloc, &fault)?;
-        assert_eq!(rt; text.as_str(), expected);
+        let path = fault.path(alloc, &format)?;
+        let shown = BrokenText {
+            fault: &fault,
+            path: &path,
+        };
+        assert_eq!(rt; format!(in alloc; "{shown}")?.as_str(), expected);
     }
     Ok(())
 }
@@ -263,5 +256,23 @@ fn packed_records(rt: HostRuntime) -> Result<(), Fail> {
     let bytes = b"\x08\0\0\0\x02\0\0\0\x05\0\0\0\x06\0\0\0";
     let packed = packed_again(rt.alloc(), LIST, bytes).ok_or("memory")?;
     assert_eq!(rt; packed.as_slice(), bytes.as_slice());
+    Ok(())
+}
+
+#[test]
+fn owned_records(rt: HostRuntime) -> Result<(), Fail> {
+    let alloc = rt.alloc();
+    let format = read_description(alloc, TEXT).ok().ok_or("description")?;
+    let bytes = Vec::from_slice(alloc, b"\x04\0\0\0ab\0")?;
+    assert!(rt; bytes.len() < 1000);
+    assert!(rt; check(&format, bytes.as_slice()).is_ok());
+    let owned = Owned::new(0, bytes);
+    let formats = [format];
+    let item = owned.checked(&formats);
+    assert_eq!(rt; item.bytes(), b"\x04\0\0\0ab\0");
+    assert_eq!(rt; item.copy().bytes(), owned.bytes());
+    assert!(rt; item.format().types().len() == 1);
+    assert_eq!(rt; owned.format(), 0);
+    assert_eq!(rt; owned.into_bytes().as_slice(), b"\x04\0\0\0ab\0");
     Ok(())
 }

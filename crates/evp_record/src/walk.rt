@@ -15,209 +15,204 @@ use crate::fields::{count_at, field_at};
 use crate::words::{pointer_at, zero_at};
 use evp_format::{Base, Broken, Field, Format, Place, PlaceStep, Shape};
 
-// The mark behind the record at the spot.
-#[cycle(walk)]
-pub(crate) fn check_record(
-    format: &Format,
-    bytes: &[u8],
-    spot: Spot,
-    place: &Place,
-    mark: usize,
-) -> Result<usize, Broken>
-    requires laid { IsWellLaid format.now }
-    requires short { length bytes.now < 2 ^ 32 }
-    requires type_there { spot.type_number < length format.now.types }
-    requires inside { spot.at + length_of (tree_of format.now spot.type_number) ≤ length bytes.now }
-    requires room { length place.now + 2 * depth (tree_of format.now spot.type_number) ≤ 32 }
-    requires mark_in { mark ≤ length bytes.now }
-    ensures value { result ≡ marked (walk_record format.now bytes.now spot place.now mark) }
-    ensures mark_in { IfOk result (λ end. end ≤ length bytes.now) }
-{
-    let fields = format.types()[usize::from(spot.type_number)]
-        .fields
-        .as_slice();
-    let mut mark = mark;
-    for index in 0..fields.len() {
-        mark = check_field(format, bytes, spot, index as u16, place, mark)?;
-    }
-    Ok(mark)
+// A record's bytes, fewer than 2^32, and its format.
+#[derive(Drop)]
+pub(crate) struct Walk<'a> {
+    pub(crate) format: &'a Format,
+    pub(crate) bytes: &'a [u8],
 }
 
-// The mark behind the field of this number of the record at the spot.
-#[cycle(walk)]
-fn check_field(
-    format: &Format,
-    bytes: &[u8],
-    spot: Spot,
-    index: u16,
-    place: &Place,
-    mark: usize,
-) -> Result<usize, Broken>
-    requires laid { IsWellLaid format.now }
-    requires short { length bytes.now < 2 ^ 32 }
-    requires field_there { IsSome (field_at format.now spot.type_number index) }
-    requires inside { spot.at + length_of (tree_of format.now spot.type_number) ≤ length bytes.now }
-    requires room { length place.now + 2 * depth (tree_of format.now spot.type_number) ≤ 32 }
-    requires mark_in { mark ≤ length bytes.now }
-    ensures value { (field : Field) → field_at format.now spot.type_number index ≡ Some field →
-        result ≡ marked
-        (walk_field format.now bytes.now spot field (place.now ++ PlaceStep.At index ∷ []) mark) }
-    ensures mark_in { IfOk result (λ end. end ≤ length bytes.now) }
-{
-    let field = field_at(format, spot.type_number, index);
-    let at = spot.at as usize + field.offset as usize;
-    let step = PlaceStep::At(index);
-    match field.shape {
-        Shape::One => check_part(format, bytes, field, at, place, step, mark),
-        Shape::Fixed(count) => {
-            check_elements(format, bytes, field, at, count, &place.with(step), mark)
+impl<'a> Walk<'a> {
+    // The mark behind the record at the spot.
+    #[cycle(walk)]
+    pub(crate) fn record(&self, spot: Spot, place: &Place, mark: usize) -> Result<usize, Broken>
+        requires laid { IsWellLaid self.now.format.now }
+        requires short { length self.now.bytes.now < 2 ^ 32 }
+        requires type_there { spot.type_number < length self.now.format.now.types }
+        requires inside { spot.at + length_of (tree_of self.now.format.now spot.type_number)
+            ≤ length self.now.bytes.now }
+        requires room { length place.now + 2 * depth (tree_of self.now.format.now spot.type_number)
+            ≤ 32 }
+        requires mark_in { mark ≤ length self.now.bytes.now }
+        ensures value { result ≡ marked
+            (walk_record self.now.format.now self.now.bytes.now spot place.now mark) }
+        ensures mark_in { IfOk result (λ end. end ≤ length self.now.bytes.now) }
+    {
+        let fields = self.format.types()[usize::from(spot.type_number)]
+            .fields
+            .as_slice();
+        let mut mark = mark;
+        for index in 0..fields.len() {
+            mark = self.field(spot, index as u16, place, mark)?;
         }
-        Shape::Counted(count) => {
-            check_counted(format, bytes, spot, field, count, place.with(step), mark)
-        }
+        Ok(mark)
     }
-}
 
-// The mark behind a counted array of the record at the spot.
-#[cycle(walk)]
-fn check_counted(
-    format: &Format,
-    bytes: &[u8],
-    spot: Spot,
-    field: &Field,
-    count: u16,
-    place: Place,
-    mark: usize,
-) -> Result<usize, Broken>
-    requires laid { IsWellLaid format.now }
-    requires short { length bytes.now < 2 ^ 32 }
-    requires counted { IsCountedAt format.now spot.type_number field.now count }
-    requires inside { spot.at + length_of (tree_of format.now spot.type_number) ≤ length bytes.now }
-    requires room { length place + 2 * part_depth (part_in format.now field.now) < 32 }
-    requires mark_in { mark ≤ length bytes.now }
-    ensures value { result ≡ marked
-        (walk_counted format.now bytes.now spot field.now count place mark) }
-    ensures mark_in { IfOk result (λ end. end ≤ length bytes.now) }
-{
-    let number = count_at(format, bytes, spot, count);
-    if number < 0 {
-        return Err(Broken::NegativeCount(place));
-    }
-    let length = number as u64;
-    if length == 0 {
-        return Ok(mark);
-    }
-    let from = pointer_at(format, bytes, spot.at as usize + field.offset as usize);
-    if from == 0 {
-        return Err(Broken::NullList(place));
-    }
-    let end = from as u128 + u128::from(length) * u128::from(field.size);
-    if from < mark || end > bytes.len() as u128 {
-        return Err(Broken::BlockPlace(place));
-    }
-    check_elements(
-        format,
-        bytes,
-        field,
-        from,
-        length as u32,
-        &place,
-        end as usize,
-    )
-}
-
-// The mark behind this many elements, of which the first stands at `from`.
-#[cycle(walk)]
-fn check_elements(
-    format: &Format,
-    bytes: &[u8],
-    field: &Field,
-    from: usize,
-    count: u32,
-    place: &Place,
-    mark: usize,
-) -> Result<usize, Broken>
-    requires laid { IsWellLaid format.now }
-    requires short { length bytes.now < 2 ^ 32 }
-    requires sized { HasBaseSize format.now.pointer format.now.types field.now.base field.now.size }
-    requires inside { from + count * field.now.size ≤ length bytes.now }
-    requires room { length place.now + 2 * part_depth (part_in format.now field.now) < 32 }
-    requires mark_in { mark ≤ length bytes.now }
-    ensures value { result ≡ marked
-        (walk_elements format.now bytes.now field.now from place.now count 0 mark) }
-    ensures mark_in { IfOk result (λ end. end ≤ length bytes.now) }
-{
-    if let Base::Number(_) = field.base {
-        return Ok(mark);
-    }
-    let mut mark = mark;
-    for index in 0..count {
-        let at = from + index as usize * field.size as usize;
-        mark = check_part(format, bytes, field, at, place, PlaceStep::Nth(index), mark)?;
-    }
-    Ok(mark)
-}
-
-// The mark behind the number, text or record at `at`, which is one step from the place.
-#[cycle(walk)]
-fn check_part(
-    format: &Format,
-    bytes: &[u8],
-    field: &Field,
-    at: usize,
-    place: &Place,
-    step: PlaceStep,
-    mark: usize,
-) -> Result<usize, Broken>
-    requires laid { IsWellLaid format.now }
-    requires short { length bytes.now < 2 ^ 32 }
-    requires sized { HasBaseSize format.now.pointer format.now.types field.now.base field.now.size }
-    requires inside { at + field.now.size ≤ length bytes.now }
-    requires room { length place.now + 2 * part_depth (part_in format.now field.now) < 32 }
-    requires mark_in { mark ≤ length bytes.now }
-    ensures value { result ≡ marked
-        (walk_part format.now bytes.now field.now at (place.now ++ step ∷ []) mark) }
-    ensures mark_in { IfOk result (λ end. end ≤ length bytes.now) }
-{
-    match field.base {
-        Base::Number(_) => Ok(mark),
-        Base::Text => check_text(format, bytes, at, place, step, mark),
-        Base::Nested(type_number) => {
-            let spot = Spot {
-                type_number,
-                at: at as u32,
-            };
-            check_record(format, bytes, spot, &place.with(step), mark)
+    // The mark behind the field of this number of the record at the spot.
+    #[cycle(walk)]
+    fn field(&self, spot: Spot, index: u16, place: &Place, mark: usize) -> Result<usize, Broken>
+        requires laid { IsWellLaid self.now.format.now }
+        requires short { length self.now.bytes.now < 2 ^ 32 }
+        requires field_there { IsSome (field_at self.now.format.now spot.type_number index) }
+        requires inside { spot.at + length_of (tree_of self.now.format.now spot.type_number)
+            ≤ length self.now.bytes.now }
+        requires room { length place.now + 2 * depth (tree_of self.now.format.now spot.type_number)
+            ≤ 32 }
+        requires mark_in { mark ≤ length self.now.bytes.now }
+        ensures value { (field : Field) →
+            field_at self.now.format.now spot.type_number index ≡ Some field →
+            result ≡ marked
+           
+                (walk_field self.now.format.now self.now.bytes.now spot field
+            (place.now ++ PlaceStep.At index ∷ []) mark) }
+        ensures mark_in { IfOk result (λ end. end ≤ length self.now.bytes.now) }
+    {
+        let field = field_at(self.format, spot.type_number, index);
+        let at = spot.at as usize + field.offset as usize;
+        let step = PlaceStep::At(index);
+        match field.shape {
+            Shape::One => self.part(field, at, place, step, mark),
+            Shape::Fixed(count) => { self.elements(field, at, count, &place.with(step), mark) }
+            Shape::Counted(count) => { self.counted(spot, field, count, place.with(step), mark) }
         }
     }
-}
 
-// The mark behind the string whose pointer stands at `at`, one step from the place.
-fn check_text(
-    format: &Format,
-    bytes: &[u8],
-    at: usize,
-    place: &Place,
-    step: PlaceStep,
-    mark: usize,
-) -> Result<usize, Broken>
-    requires laid { IsWellLaid format.now }
-    requires inside { at + format.now.pointer ≤ length bytes.now }
-    requires room { length place.now < 32 }
-    requires mark_in { mark ≤ length bytes.now }
-    ensures value { result ≡ marked
-        (walk_text format.now bytes.now at (place.now ++ step ∷ []) mark) }
-    ensures mark_in { IfOk result (λ end. end ≤ length bytes.now) }
-{
-    let from = pointer_at(format, bytes, at);
-    if from == 0 {
-        return Ok(mark);
+    // The mark behind a counted array of the record at the spot.
+    #[cycle(walk)]
+    fn counted(
+        &self,
+        spot: Spot,
+        field: &Field,
+        count: u16,
+        place: Place,
+        mark: usize,
+    ) -> Result<usize, Broken>
+        requires laid { IsWellLaid self.now.format.now }
+        requires short { length self.now.bytes.now < 2 ^ 32 }
+        requires counted { IsCountedAt self.now.format.now spot.type_number field.now count }
+        requires inside { spot.at + length_of (tree_of self.now.format.now spot.type_number)
+            ≤ length self.now.bytes.now }
+        requires room { length place + 2 * part_depth (part_in self.now.format.now field.now) < 32 }
+        requires mark_in { mark ≤ length self.now.bytes.now }
+        ensures value { result ≡ marked
+            (walk_counted self.now.format.now self.now.bytes.now spot field.now count place mark) }
+        ensures mark_in { IfOk result (λ end. end ≤ length self.now.bytes.now) }
+    {
+        let number = count_at(self.format, self.bytes, spot, count);
+        if number < 0 {
+            return Err(Broken::NegativeCount(place));
+        }
+        let length = number as u64;
+        if length == 0 {
+            return Ok(mark);
+        }
+        let from = pointer_at(
+            self.format,
+            self.bytes,
+            spot.at as usize + field.offset as usize,
+        );
+        if from == 0 {
+            return Err(Broken::NullList(place));
+        }
+        let end = from as u128 + u128::from(length) * u128::from(field.size);
+        if from < mark || end > self.bytes.len() as u128 {
+            return Err(Broken::BlockPlace(place));
+        }
+        self.elements(field, from, length as u32, &place, end as usize)
     }
-    if from < mark || from >= bytes.len() {
-        return Err(Broken::BlockPlace(place.with(step)));
+
+    // The mark behind this many elements, of which the first stands at `from`.
+    #[cycle(walk)]
+    fn elements(
+        &self,
+        field: &Field,
+        from: usize,
+        count: u32,
+        place: &Place,
+        mark: usize,
+    ) -> Result<usize, Broken>
+        requires laid { IsWellLaid self.now.format.now }
+        requires short { length self.now.bytes.now < 2 ^ 32 }
+        requires sized { HasBaseSize self.now.format.now.pointer self.now.format.now.types
+            field.now.base field.now.size }
+        requires inside { from + count * field.now.size ≤ length self.now.bytes.now }
+        requires room { length place.now + 2 * part_depth (part_in self.now.format.now field.now)
+            < 32 }
+        requires mark_in { mark ≤ length self.now.bytes.now }
+        ensures value { result ≡ marked
+           
+                (walk_elements self.now.format.now self.now.bytes.now field.now
+            from place.now count 0 mark) }
+        ensures mark_in { IfOk result (λ end. end ≤ length self.now.bytes.now) }
+    {
+        if let Base::Number(_) = field.base {
+            return Ok(mark);
+        }
+        let mut mark = mark;
+        for index in 0..count {
+            let at = from + index as usize * field.size as usize;
+            mark = self.part(field, at, place, PlaceStep::Nth(index), mark)?;
+        }
+        Ok(mark)
     }
-    match zero_at(&bytes[from..]) {
-        Some(length) => Ok(from + length + 1),
-        None => Err(Broken::NoEnd(place.with(step))),
+
+    // The mark behind the number, text or record at `at`, which is one step from the place.
+    #[cycle(walk)]
+    fn part(
+        &self,
+        field: &Field,
+        at: usize,
+        place: &Place,
+        step: PlaceStep,
+        mark: usize,
+    ) -> Result<usize, Broken>
+        requires laid { IsWellLaid self.now.format.now }
+        requires short { length self.now.bytes.now < 2 ^ 32 }
+        requires sized { HasBaseSize self.now.format.now.pointer self.now.format.now.types
+            field.now.base field.now.size }
+        requires inside { at + field.now.size ≤ length self.now.bytes.now }
+        requires room { length place.now + 2 * part_depth (part_in self.now.format.now field.now)
+            < 32 }
+        requires mark_in { mark ≤ length self.now.bytes.now }
+        ensures value { result ≡ marked
+           
+                (walk_part self.now.format.now self.now.bytes.now field.now
+            at (place.now ++ step ∷ []) mark) }
+        ensures mark_in { IfOk result (λ end. end ≤ length self.now.bytes.now) }
+    {
+        match field.base {
+            Base::Number(_) => Ok(mark),
+            Base::Text => self.text(at, place, step, mark),
+            Base::Nested(type_number) => {
+                let spot = Spot {
+                    type_number,
+                    at: at as u32,
+                };
+                self.record(spot, &place.with(step), mark)
+            }
+        }
+    }
+
+    // The mark behind the string whose pointer stands at `at`, one step from the place.
+    fn text(&self, at: usize, place: &Place, step: PlaceStep, mark: usize) -> Result<usize, Broken>
+        requires laid { IsWellLaid self.now.format.now }
+        requires inside { at + self.now.format.now.pointer ≤ length self.now.bytes.now }
+        requires room { length place.now < 32 }
+        requires mark_in { mark ≤ length self.now.bytes.now }
+        ensures value { result ≡ marked
+            (walk_text self.now.format.now self.now.bytes.now at (place.now ++ step ∷ []) mark) }
+        ensures mark_in { IfOk result (λ end. end ≤ length self.now.bytes.now) }
+    {
+        let from = pointer_at(self.format, self.bytes, at);
+        if from == 0 {
+            return Ok(mark);
+        }
+        if from < mark || from >= self.bytes.len() {
+            return Err(Broken::BlockPlace(place.with(step)));
+        }
+        match zero_at(&self.bytes[from..]) {
+            Some(length) => Ok(from + length + 1),
+            None => Err(Broken::NoEnd(place.with(step))),
+        }
     }
 }

@@ -5,8 +5,8 @@ use Rattle.evp_record.specs.Marks.{marked}
 use Rattle.evp_record.proofs.Viewed.{one_outcome, viewed-broken, viewed-read, view-walked, length_of_root, root_walk}
 use Rattle.evp_record.proofs.record.first_fault.Goals as goal
 
-pub check_record-requires-clause-mark_in : goal.check_record-requires-clause-mark_in
-check_record-requires-clause-mark_in c =
+pub record-requires-clause-mark_in : goal.record-requires-clause-mark_in
+record-requires-clause-mark_in c =
     let long = length_of_root c.args.format.now c.root.result.now c.root.ensures.laid c.root.ensures.value in
     omega (arith, long)
 

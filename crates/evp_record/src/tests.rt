@@ -269,10 +269,10 @@ fn owned_records(rt: HostRuntime) -> Result<(), Fail> {
     let owned = Owned::new(0, bytes);
     let formats = [format];
     let item = owned.checked(&formats);
-    assert_eq!(rt; item.bytes(), b"\x04\0\0\0ab\0");
+    assert_eq!(rt; item.bytes(), b"\x04\0\0\0ab\0".as_slice());
     assert_eq!(rt; item.copy().bytes(), owned.bytes());
     assert!(rt; item.format().types().len() == 1);
     assert_eq!(rt; owned.format(), 0);
-    assert_eq!(rt; owned.into_bytes().as_slice(), b"\x04\0\0\0ab\0");
+    assert_eq!(rt; owned.into_bytes().as_slice(), b"\x04\0\0\0ab\0".as_slice());
     Ok(())
 }

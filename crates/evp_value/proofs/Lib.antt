@@ -1,2 +1,4 @@
+pub mod Lengths
+pub mod MadeSoFar
 mod Texts
 mod Zeros

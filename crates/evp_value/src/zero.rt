@@ -65,7 +65,7 @@ fn zero_field(
 
 // As many zeros of an element of that field.
 #[cycle(zero)]
-fn zero_elements(
+pub(crate) fn zero_elements(
     alloc: Global,
     format: &Format,
     type_number: usize,

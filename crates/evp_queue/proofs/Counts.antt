@@ -32,7 +32,8 @@ was_route route other cs is =
     (λ e. (is.0, sym (raised_elsewhere route other cs e.1) ∙ is.1))
     (eqb_tells other route)
 
-pub those_at : (routes : List ℕ) (route : ℕ) (cs : Counts) → is_among route routes ≡ true → count_at route (those routes cs) ≡ count_at route cs
+pub those_at : (routes : List ℕ) (route : ℕ) (cs : Counts) → is_among route routes ≡ true → count_at route (those routes cs)
+    ≡ count_at route cs
 those_at routes route [] among = refl
 those_at routes route (c ∷ cs) among =
     let more = those_at routes route cs among in grind (arith, nat_tests, more)
@@ -42,12 +43,14 @@ not_in_those routes route [] among = refl
 not_in_those routes route (c ∷ cs) among =
     let more = not_in_those routes route cs among in grind (arith, nat_tests, more)
 
-pub others_at : (routes : List ℕ) (route : ℕ) (cs : Counts) → is_among route routes ≡ false → count_at route (others routes cs) ≡ count_at route cs
+pub others_at : (routes : List ℕ) (route : ℕ) (cs : Counts) → is_among route routes ≡ false → count_at route (others routes cs)
+    ≡ count_at route cs
 others_at routes route [] among = refl
 others_at routes route (c ∷ cs) among =
     let more = others_at routes route cs among in grind (arith, nat_tests, more)
 
-pub not_in_others : (routes : List ℕ) (route : ℕ) (cs : Counts) → is_among route routes ≡ true → count_at route (others routes cs) ≡ None
+pub not_in_others : (routes : List ℕ) (route : ℕ) (cs : Counts) → is_among route routes ≡ true → count_at route (others routes cs)
+    ≡ None
 not_in_others routes route [] among = refl
 not_in_others routes route (c ∷ cs) among =
     let more = not_in_others routes route cs among in grind (arith, nat_tests, more)

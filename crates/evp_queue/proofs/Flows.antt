@@ -1,5 +1,6 @@
 -- What entries stand for when one joins at the back, and when one leaves at the front.
-use Rattle.std.proofs.Common.{◌≡◌, ℕ, zero, suc, ◌+◌, ◌-◌, ◌≤◌, ◌<◌, ◌≢◌, ◌==◌, List, [], ◌∷◌, ◌++◌, length, take, drop, Some, sym, refl, ap, ◌∙◌, eq-eqb, ne_eqb, add-one, arith, length-take, length-drop}
+use Rattle.std.proofs.Common.{◌≡◌, ℕ, zero, suc, ◌+◌, ◌-◌, ◌≤◌, ◌<◌, ◌≢◌, ◌==◌, List, [], ◌∷◌, ◌++◌, length, take, drop, Some, sym}
+use Rattle.std.proofs.Common.{refl, ap, ◌∙◌, eq-eqb, ne_eqb, add-one, arith, length-take, length-drop}
 use Rattle.std.proofs.lemmas.List.Elements.{filter-append}
 use Rattle.std.proofs.lemmas.List.{drop-append-le, append-nil}
 use Rattle.std.proofs.lemmas.Option.{slice_get_within}
@@ -7,7 +8,8 @@ use Rattle.std.specs.List.{slice_get}
 use Rattle.evp_queue.specs.Flow.{entries_of, StandFor, between, Carries}
 
 module _ {Fact : Type 0} where
-  take_next : (to : ℕ) (facts : List Fact) (fact : Fact) → slice_get facts to ≡ Some fact → take (suc to) facts ≡ take to facts ++ fact ∷ []
+  take_next : (to : ℕ) (facts : List Fact) (fact : Fact) → slice_get facts to ≡ Some fact → take (suc to) facts ≡ take to facts ++ fact
+      ∷ []
   take_next to [] fact at = absurd (cc)
   take_next zero (f ∷ facts) fact at = cc
   take_next (suc to) (f ∷ facts) fact at = ap (λ l. f ∷ l) (take_next to facts fact at)
@@ -55,17 +57,20 @@ module _ {E Fact : Type 0} (position_of : E → ℕ) (stands_for : E → Fact �
   StandFor-more position (e ∷ entries) (f ∷ facts) entry fact stand is stands =
       (stand.0, stand.1, StandFor-more (position + 1) entries facts entry fact stand.2 (omega arith) stands)
 
-  pub length-StandFor : (position : ℕ) (entries : List E) (facts : List Fact) → StandFor position_of stands_for position entries facts → length entries ≡ length facts
+  pub length-StandFor : (position : ℕ) (entries : List E) (facts : List Fact) → StandFor position_of stands_for position entries facts
+      → length entries ≡ length facts
   length-StandFor position [] [] stand = refl
   length-StandFor position [] (f ∷ facts) stand = absurd stand
   length-StandFor position (e ∷ entries) [] stand = absurd stand
   length-StandFor position (e ∷ entries) (f ∷ facts) stand = ap suc (length-StandFor (position + 1) entries facts stand.2)
 
 module _ {E : Type 0} (route_of : E → ℕ) where
-  pub entries_of-here : (route : ℕ) (entry : E) (entries : List E) → route_of entry ≡ route → entries_of route_of route (entry ∷ entries) ≡ entry ∷ entries_of route_of route entries
+  pub entries_of-here : (route : ℕ) (entry : E) (entries : List E) → route_of entry ≡ route
+      → entries_of route_of route (entry ∷ entries) ≡ entry ∷ entries_of route_of route entries
   entries_of-here route entry entries is = rw (eq-eqb (route_of entry) route is)
 
-  pub entries_of-elsewhere : (route : ℕ) (entry : E) (entries : List E) → route ≢ route_of entry → entries_of route_of route (entry ∷ entries) ≡ entries_of route_of route entries
+  pub entries_of-elsewhere : (route : ℕ) (entry : E) (entries : List E) → route ≢ route_of entry
+      → entries_of route_of route (entry ∷ entries) ≡ entries_of route_of route entries
   entries_of-elsewhere route entry entries apart = rw (ne_eqb (route_of entry) route (λ e. apart (sym e)))
 
 module _ {E W Fact : Type 0} (route_of position_of : E → ℕ) (flow : W → ℕ → List Fact) (stands_for : E → Fact → Type 0) where
@@ -84,7 +89,8 @@ module _ {E W Fact : Type 0} (route_of position_of : E → ℕ) (flow : W → �
         behind = let b = was.behind in omega arith;
         within = let w = slice_get_within (flow whole route) given fact at in omega arith;
         stand = rw (all, between-more taken given (flow whole route) fact was.behind at)
-            (StandFor-more position_of stands_for taken (entries_of route_of route entries) facts entry fact was.stand (let b = was.behind in omega arith) stands);
+            (StandFor-more position_of stands_for taken (entries_of route_of route entries) facts entry fact was.stand
+            (let b = was.behind in omega arith) stands);
       }
 
   -- an entry of another route joins at the back
@@ -93,7 +99,8 @@ module _ {E W Fact : Type 0} (route_of position_of : E → ℕ) (flow : W → �
       → Carries route_of position_of flow stands_for whole route taken given (entries ++ entry ∷ [])
   carries_still whole route taken given entries entry was apart =
       let all : entries_of route_of route (entries ++ entry ∷ []) ≡ entries_of route_of route entries =
-      filter-append (λ e. route_of e == route) entries (entry ∷ []) ∙ ap (λ l. entries_of route_of route entries ++ l) (entries_of-elsewhere route_of route entry [] apart) ∙ append-nil (entries_of route_of route entries) in
+      filter-append (λ e. route_of e == route) entries (entry ∷ []) ∙ ap (λ l. entries_of route_of route entries ++ l)
+      (entries_of-elsewhere route_of route entry [] apart) ∙ append-nil (entries_of route_of route entries) in
       record { behind = was.behind; within = was.within; stand = rw all was.stand }
 
   -- an entry of another route leaves at the front
@@ -101,7 +108,12 @@ module _ {E W Fact : Type 0} (route_of position_of : E → ℕ) (flow : W → �
       → Carries route_of position_of flow stands_for whole route taken given (entry ∷ entries) → route ≢ route_of entry
       → Carries route_of position_of flow stands_for whole route taken given entries
   carries_behind whole route taken given entries entry was apart =
-      record { behind = was.behind; within = was.within; stand = rw (entries_of-elsewhere route_of route entry entries apart) at was.stand }
+      record {
+        behind = was.behind;
+        within = was.within;
+        stand = rw (entries_of-elsewhere route_of route entry entries apart) at
+            was.stand;
+      }
 
   -- the first of the entries, and the others
   pub record LeavesFirst (whole : W) (route taken given : ℕ) (entries : List E) (entry : E) : Type 0 where

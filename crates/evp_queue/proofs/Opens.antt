@@ -1,5 +1,6 @@
 -- A queue that is opened keeps the rule.
-use Rattle.std.proofs.Common.{◌≡◌, ℕ, zero, suc, inl, inr, ⊎_elim, true, false, true≢false, List, [], ◌∷◌, Some, sym, refl, ap, ◌∙◌, subst, arith}
+use Rattle.std.proofs.Common.{◌≡◌, ℕ, zero, suc, inl, inr, ⊎_elim, true, false, true≢false, List, [], ◌∷◌, Some, sym, refl, ap, ◌∙◌}
+use Rattle.std.proofs.Common.{subst, arith}
 use Rattle.std.proofs.lemmas.List.Elements.{All-nil}
 use mathlib.Core.Option.{some, some-injective, some-ne-none}
 use lib.ListN.{get_elem?}
@@ -17,7 +18,8 @@ module _ {E W Fact : Type 0} (route_of position_of : E → ℕ) (flow : W → �
 
   carries_none : (whole : W) (route count : ℕ) → count ≡ 0 → Carries route_of position_of flow stands_for whole route count 0 []
   carries_none whole route count none =
-      subst (λ c. Carries route_of position_of flow stands_for whole route c 0 []) (sym none) record { behind = omega arith; within = omega arith; stand = tt }
+      subst (λ c. Carries route_of position_of flow stands_for whole route c 0 []) (sym none) record
+      { behind = omega arith; within = omega arith; stand = tt }
 
   module _ (whole : W) (routes : List ℕ) where
     abbrev giver : Progress W
@@ -36,7 +38,8 @@ module _ {E W Fact : Type 0} (route_of position_of : E → ℕ) (flow : W → �
     one_taker (suc zero) u e takes = refl
     one_taker (suc (suc j)) u e takes = absurd (some-ne-none u (sym e))
 
-    one_giver : (j : ℕ) (u : Progress W) (route : ℕ) → get_elem? (giver ∷ taker ∷ []) j ≡ some u → u.takes ≡ false → IsRoute route u.counts
+    one_giver : (j : ℕ) (u : Progress W) (route : ℕ) → get_elem? (giver ∷ taker ∷ []) j ≡ some u → u.takes ≡ false
+        → IsRoute route u.counts
         → IsRoute route (zeroed routes) × (j ≡ 0)
     one_giver zero u route e gives on = (subst (λ (p : Progress W). IsRoute route p.counts) (sym (some-injective giver u e)) on, refl)
     one_giver (suc zero) u route e gives on = absurd (true≢false (ap (λ (p : Progress W). p.takes) (some-injective taker u e) ∙ gives))
@@ -60,7 +63,8 @@ module _ {E W Fact : Type 0} (route_of position_of : E → ℕ) (flow : W → �
 
   -- the first pass becomes the give pass, and the new one the take pass
   pub opens : (pass : ℕ) (whole : W) (routes : List ℕ)
-      → Forks (Ruled route_of position_of flow stands_for) pass unopened (progress (Some whole) false (zeroed routes)) (progress (Some whole) true (zeroed routes))
+      → Forks (Ruled route_of position_of flow stands_for) pass unopened (progress (Some whole) false (zeroed routes))
+      (progress (Some whole) true (zeroed routes))
   opens pass whole routes entries passes rule at =
       ⊎_elim (λ first.
       let here = only_first unopened unopened pass (ap (λ l. get_elem? l pass) (sym first.1) ∙ at) in

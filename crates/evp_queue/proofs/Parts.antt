@@ -1,5 +1,6 @@
 -- A give pass that is split keeps the rule.
-use Rattle.std.proofs.Common.{◌≡◌, ℕ, ◌≢◌, ◌⊎◌, inl, inr, ⊎_elim, Bool, true, false, true≢false, cond, List, [], ◌∷◌, ◌++◌, length, set, Some, sym, refl, ap, ◌∙◌, subst, eqb, eq-eqb, ne_eqb, length-set}
+use Rattle.std.proofs.Common.{◌≡◌, ℕ, ◌≢◌, ◌⊎◌, inl, inr, ⊎_elim, Bool, true, false, true≢false, cond, List, [], ◌∷◌, ◌++◌, length, set}
+use Rattle.std.proofs.Common.{Some, sym, refl, ap, ◌∙◌, subst, eqb, eq-eqb, ne_eqb, length-set}
 use Rattle.std.proofs.lemmas.Bool.Decides.{eqb_tells}
 use mathlib.Core.Option.{some, some-injective}
 use lib.ListN.{get_elem?}
@@ -17,7 +18,8 @@ tested true = inl refl
 tested false = inr refl
 
 module _ {E W Fact : Type 0} (route_of position_of : E → ℕ) (flow : W → ℕ → List Fact) (stands_for : E → Fact → Type 0) where
-  module _ (routes : List ℕ) (entries : List E) (passes : List (Progress W)) (pass : ℕ) (v : Progress W) (at : get_elem? passes pass ≡ some v) (is : v.takes ≡ false)
+  module _ (routes : List ℕ) (entries : List E) (passes : List (Progress W)) (pass : ℕ) (v : Progress W)
+      (at : get_elem? passes pass ≡ some v) (is : v.takes ≡ false)
       (q : Queued route_of position_of flow stands_for entries passes) where
     abbrev left : Progress W
     left = with_counts v (those routes v.counts)
@@ -49,7 +51,8 @@ module _ {E W Fact : Type 0} (route_of position_of : E → ℕ) (flow : W → �
 
     taker_apart : q.taker ≢ pass
     taker_apart e =
-        let same : progress (Some q.whole) true q.taken ≡ v = some-injective _ v (sym q.take_pass ∙ ap (λ k. get_elem? passes k) e ∙ at) in
+        let same : progress (Some q.whole) true q.taken ≡ v = some-injective _ v (sym q.take_pass ∙ ap (λ k. get_elem? passes k) e ∙ at)
+        in
         true≢false (ap (λ (p : Progress W). p.takes) same ∙ is)
 
     one_taker : (j : ℕ) (u : Progress W) → get_elem? parted j ≡ some u → u.takes ≡ true → j ≡ q.taker
@@ -60,12 +63,14 @@ module _ {E W Fact : Type 0} (route_of position_of : E → ℕ) (flow : W → �
         (at_parted passes pass left right j u e)
 
     give_pass : (route : ℕ) → IsRoute route q.taken
-        → (u : Progress W) × (get_elem? parted (giver_of route) ≡ some u) × (u.takes ≡ false) × (count_at route u.counts ≡ Some (q.given route))
+        → (u : Progress W) × (get_elem? parted (giver_of route) ≡ some u) × (u.takes ≡ false)
+        × (count_at route u.counts ≡ Some (q.given route))
     give_pass route on =
         let giver = q.give_pass route on in
         ⊎_elim (λ here.
         let same : giver.0 ≡ v = some-injective giver.0 v (sym giver.1 ∙ ap (λ k. get_elem? passes k) here.1 ∙ at) in
-        let count : count_at route v.counts ≡ Some (q.given route) = ap (λ (p : Progress W). count_at route p.counts) (sym same) ∙ giver.3 in
+        let count : count_at route v.counts ≡ Some (q.given route) = ap (λ (p : Progress W). count_at route p.counts) (sym same)
+        ∙ giver.3 in
         ⊎_elim (λ among. (left, rw (here.0, among) left_at, is, those_at routes route v.counts among ∙ count))
         (λ not_among. (right, rw (here.0, not_among) right_at, is, others_at routes route v.counts not_among ∙ count))
         (tested (is_among route routes)))
@@ -119,6 +124,7 @@ module _ {E W Fact : Type 0} (route_of position_of : E → ℕ) (flow : W → �
     }
 
   pub parts : (pass : ℕ) (v : Progress W) (routes : List ℕ) → v.takes ≡ false → IsOpen v
-      → Forks (Ruled route_of position_of flow stands_for) pass v (with_counts v (those routes v.counts)) (with_counts v (others routes v.counts))
+      → Forks (Ruled route_of position_of flow stands_for) pass v (with_counts v (those routes v.counts))
+      (with_counts v (others routes v.counts))
   parts pass v routes is open' entries passes rule at =
       ⊎_elim (λ none. absurd (not_open passes pass v none.1 at open')) (λ q. inr (split_one routes entries passes pass v at is q)) rule

@@ -1,5 +1,6 @@
 -- The passes of a queue after one of them changed, and after one was made.
-use Rattle.std.proofs.Common.{◌≡◌, ℕ, zero, suc, ◌≢◌, ◌⊎◌, inl, inr, ⊎_elim, List, [], ◌∷◌, ◌++◌, length, set, sym, refl, ap, ◌∙◌, length-set}
+use Rattle.std.proofs.Common.{◌≡◌, ℕ, zero, suc, ◌≢◌, ◌⊎◌, inl, inr, ⊎_elim, List, [], ◌∷◌, ◌++◌, length, set, sym, refl, ap, ◌∙◌}
+use Rattle.std.proofs.Common.{length-set}
 use mathlib.Core.Option.{some, some-injective, some-ne-none}
 use lib.ListN.{get_elem?}
 use Rattle.crossbeam_queue.proofs.Lists.{at_set}
@@ -32,7 +33,8 @@ module _ {A : Type 0} where
       (at_end (set l i a) b c j at)
 
 -- the first pass isn't one of an open queue
-pub not_open : {W : Type 0} (passes : List (Progress W)) (pass : ℕ) (v : Progress W) → passes ≡ unopened ∷ [] → get_elem? passes pass ≡ some v → IsOpen v → ⊥
+pub not_open : {W : Type 0} (passes : List (Progress W)) (pass : ℕ) (v : Progress W) → passes ≡ unopened ∷ [] → get_elem? passes pass
+    ≡ some v → IsOpen v → ⊥
 not_open {W = W} passes pass v first at is =
     let only = only_first unopened v pass (ap (λ l. get_elem? l pass) (sym first) ∙ at) in
     let none = ap (λ (p : Progress W). p.whole) only.1 in absurd cc

@@ -16,7 +16,8 @@ use Rattle.evp_queue.proofs.Flows.{LeavesFirst, carries_fewer, carries_behind}
 use Rattle.evp_queue.proofs.Passes.{set_at, not_open}
 
 module _ {E W Fact : Type 0} (route_of position_of : E → ℕ) (flow : W → ℕ → List Fact) (stands_for : E → Fact → Type 0) where
-  module _ (entry : E) (entries : List E) (passes : List (Progress W)) (pass : ℕ) (v : Progress W) (at : get_elem? passes pass ≡ some v) (is : v.takes ≡ true)
+  module _ (entry : E) (entries : List E) (passes : List (Progress W)) (pass : ℕ) (v : Progress W) (at : get_elem? passes pass ≡ some v)
+      (is : v.takes ≡ true)
       (q : Queued route_of position_of flow stands_for (entry ∷ entries) passes) where
     abbrev w : Progress W
     w = with_counts v (raised (route_of entry) v.counts)
@@ -54,13 +55,15 @@ module _ {E W Fact : Type 0} (route_of position_of : E → ℕ) (flow : W → �
         true≢false (sym is ∙ ap (λ (p : Progress W). p.takes) (sym here) ∙ giver.2)
 
     still_given : (route : ℕ) → IsRoute route (raised (route_of entry) q.taken)
-        → (u : Progress W) × (get_elem? (set passes pass w) (q.giver route) ≡ some u) × (u.takes ≡ false) × (count_at route u.counts ≡ Some (q.given route))
+        → (u : Progress W) × (get_elem? (set passes pass w) (q.giver route) ≡ some u) × (u.takes ≡ false)
+        × (count_at route u.counts ≡ Some (q.given route))
     still_given route now =
         let was = was_route (route_of entry) route q.taken now in
         let giver = q.give_pass route was in
         (giver.0, set_else passes pass (q.giver route) w (giver_apart route was) ∙ giver.1, giver.2, giver.3)
 
-    still_one : (j : ℕ) (u : Progress W) (route : ℕ) → get_elem? (set passes pass w) j ≡ some u → u.takes ≡ false → IsRoute route u.counts
+    still_one : (j : ℕ) (u : Progress W) (route : ℕ) → get_elem? (set passes pass w) j ≡ some u → u.takes ≡ false
+        → IsRoute route u.counts
         → IsRoute route (raised (route_of entry) q.taken) × (j ≡ q.giver route)
     still_one j u route e gives on' =
         ⊎_elim (λ x. absurd (true≢false (sym is ∙ ap (λ (p : Progress W). p.takes) x.1 ∙ gives)))
@@ -72,7 +75,8 @@ module _ {E W Fact : Type 0} (route_of position_of : E → ℕ) (flow : W → �
     carries_on route count now =
         ⊎_elim (λ e.
         let next = raised_here (route_of entry) on.0 q.taken on.1 in
-        let now' : count_at (route_of entry) (raised (route_of entry) q.taken) ≡ Some count = ap (λ r. count_at r (raised (route_of entry) q.taken)) (sym e.1) ∙ now in
+        let now' : count_at (route_of entry) (raised (route_of entry) q.taken)
+        ≡ Some count = ap (λ r. count_at r (raised (route_of entry) q.taken)) (sym e.1) ∙ now in
         let count_is : on.0 + 1 ≡ count = cc in
         rw (e.1, ← count_is) leaves.others)
         (λ e. carries_behind route_of position_of flow stands_for q.whole route count (q.given route) entries entry
@@ -86,18 +90,22 @@ module _ {E W Fact : Type 0} (route_of position_of : E → ℕ) (flow : W → �
       taken = raised (route_of entry) q.taken;
       giver = q.giver;
       given = q.given;
-      of_whole = λ j u e. ⊎_elim (λ x. ap (λ (p : Progress W). p.whole) (sym x.1) ∙ q.of_whole pass v at) (λ x. q.of_whole j u x.1) (at_set passes pass j w u e);
+      of_whole = λ j u e. ⊎_elim (λ x. ap (λ (p : Progress W). p.whole) (sym x.1) ∙ q.of_whole pass v at) (λ x. q.of_whole j u x.1)
+          (at_set passes pass j w u e);
       take_pass = ap (λ k. get_elem? (set passes pass w) k) (sym (q.one_taker pass v at is)) ∙ set_at passes pass v w at
           ∙ ap (λ (p : Progress W). some (with_counts p (raised (route_of entry) p.counts))) (sym same);
-      one_taker = λ j u e takes. ⊎_elim (λ x. x.0 ∙ q.one_taker pass v at is) (λ x. q.one_taker j u x.1 takes) (at_set passes pass j w u e);
+      one_taker = λ j u e takes. ⊎_elim (λ x. x.0 ∙ q.one_taker pass v at is) (λ x. q.one_taker j u x.1 takes)
+          (at_set passes pass j w u e);
       give_pass = still_given;
       one_giver = still_one;
       on_routes = All-weaker (λ e. IsRoute (route_of e) q.taken) (λ e. IsRoute (route_of e) (raised (route_of entry) q.taken))
-          (λ e. still_route (route_of entry) (route_of e) q.taken) entries (All-tail (λ e. IsRoute (route_of e) q.taken) entry entries q.on_routes);
+          (λ e. still_route (route_of entry) (route_of e) q.taken) entries
+          (All-tail (λ e. IsRoute (route_of e) q.taken) entry entries q.on_routes);
       in_flow = carries_on;
     }
 
-  pub takes : (pass : ℕ) (v : Progress W) → v.takes ≡ true → IsOpen v → Pops (Ruled route_of position_of flow stands_for) pass v (Took route_of position_of flow stands_for v)
+  pub takes : (pass : ℕ) (v : Progress W) → v.takes ≡ true → IsOpen v
+      → Pops (Ruled route_of position_of flow stands_for) pass v (Took route_of position_of flow stands_for v)
   takes pass v is open' entry entries passes rule at =
       let w : Progress W = with_counts v (raised (route_of entry) v.counts) in
       ⊎_elim (λ none. absurd (not_open passes pass v none.1 at open'))
@@ -105,6 +113,7 @@ module _ {E W Fact : Type 0} (route_of position_of : E → ℕ) (flow : W → �
       rule
 
   -- what a look at the queue tells
-  pub sees : (pass : ℕ) (v : Progress W) → IsOpen v → Learns (Ruled route_of position_of flow stands_for) pass v (Seen route_of position_of flow stands_for v)
+  pub sees : (pass : ℕ) (v : Progress W) → IsOpen v → Learns (Ruled route_of position_of flow stands_for) pass v
+      (Seen route_of position_of flow stands_for v)
   sees pass v open' entries passes rule at =
       ⊎_elim (λ none. absurd (not_open passes pass v none.1 at open')) (λ q. (passes, pass, q, at)) rule

@@ -1,5 +1,7 @@
--- The counts of a pass: its routes, and for each the number of entries that were given or taken on it.
-use Rattle.std.specs.Prelude.{◌≡◌, ℕ, ◌+◌, ◌==◌, Bool, true, false, not, if◌then◌else◌, List, [], ◌∷◌, map, filter, Option, Some, None}
+-- The counts of a pass: its routes, and for each the number of entries that were given or taken
+-- on it.
+use Rattle.std.specs.Prelude.{◌≡◌, ℕ, ◌+◌, ◌==◌, Bool, true, false, not, if◌then◌else◌, List, []}
+use Rattle.std.specs.Prelude.{◌∷◌, map, filter, Option, Some, None}
 
 abbrev pub Counts : Type 0
 Counts = List (ℕ × ℕ)

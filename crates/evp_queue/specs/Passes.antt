@@ -21,11 +21,13 @@ module _ {E W : Type 0} where
 
   -- it is a give pass of this queue
   abbrev pub GivesTo : StoneQueue E W → GivePass E W → Type 0
-  GivesTo queue pass = IsPassOf queue.ring pass.pass × IsOpen (giver_of pass) × ((giver_of pass).takes ≡ false)
+  GivesTo queue pass = IsPassOf queue.ring pass.pass × IsOpen (giver_of pass)
+      × ((giver_of pass).takes ≡ false)
 
   -- it is the take pass of this queue
   abbrev pub TakesFrom : StoneQueue E W → TakePass E W → Type 0
-  TakesFrom queue pass = IsPassOf queue.ring pass.pass × IsOpen (taker_of pass) × ((taker_of pass).takes ≡ true)
+  TakesFrom queue pass = IsPassOf queue.ring pass.pass × IsOpen (taker_of pass)
+      × ((taker_of pass).takes ≡ true)
 
 -- the next value of a count, which stays at its last one
 abbrev pub counted : ℕ → ℕ

@@ -1,4 +1,5 @@
-//! Queues between stones, under a rule: what is taken of a route is its flow, from the taker's count on.
+//! Queues between stones, under a rule: what is taken of a route is its flow, from the taker's
+//! count on.
 #![tactic(auto)]
 
 mod pass;

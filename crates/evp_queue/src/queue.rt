@@ -2,9 +2,11 @@
 ghost use Rattle.std.specs.Prelude.{◌≡◌, ◌<◌, Some, true, false, IfOk, IfErr, IfSome, IfNone};
 ghost use Rattle.crossbeam_queue.specs.Fifo.{Held};
 ghost use Rattle.crossbeam_queue.specs.Passes.{view, IsPassOf};
-ghost use Rattle.evp_queue.specs.Counts.{those, others, zeroed, raised};
-ghost use Rattle.evp_queue.specs.Rule.{progress, unopened, with_counts, IsOpen, IsNext, Seen};
-ghost use Rattle.evp_queue.specs.Passes.{capacity_of, giver_of, taker_of, GivesTo, TakesFrom, counted};
+ghost use Rattle.evp_queue.specs.Counts.{zeroed};
+ghost use Rattle.evp_queue.specs.Rule.{progress, unopened, one_more, part_of, rest_of};
+ghost use Rattle.evp_queue.specs.Rule.{IsOpen, IsNext, Seen};
+ghost use Rattle.evp_queue.specs.Passes.{capacity_of, giver_of, taker_of, GivesTo, TakesFrom};
+ghost use Rattle.evp_queue.specs.Passes.{counted};
 ghost use Rattle.evp_queue.specs.declared.pass.Given.TheVariants.{Full};
 
 use crate::pass::{GivePass, Given, TakePass, Unsplit};
@@ -27,8 +29,8 @@ pub struct StoneQueue<E: Placed> {
 }
 
 impl<E: Placed> StoneQueue<E> {
-    /// An empty queue of at most `capacity` entries for the flows of `whole`, with its two passes,
-    /// which have all these routes. `whole` serves the contract alone.
+    /// An empty queue of at most `capacity` entries for the flows of `whole`, with its two
+    /// passes, which have all these routes. `whole` serves the contract alone.
     pub fn new<R: Wait>(
         _rt: &R,
         alloc: Global,
@@ -58,8 +60,8 @@ impl<E: Placed> StoneQueue<E> {
         Ok((StoneQueue { ring }, give, take))
     }
 
-    /// Splits a pass: the first of the two keeps those routes that are among `first`, and the second
-    /// has the others. Their counts stay.
+    /// Splits a pass: the first of the two keeps those routes that are among `first`, and the
+    /// second has the others. Their counts stay.
     pub fn split<R: Wait>(
         &self,
         _rt: &R,
@@ -69,10 +71,10 @@ impl<E: Placed> StoneQueue<E> {
         requires { GivesTo self.now pass }
         ensures first { IfOk result (λ both.
             GivesTo self.now both.0 × (both.0.fulls ≡ pass.fulls)
-            × (giver_of both.0 ≡ with_counts (giver_of pass) (those first.now (giver_of pass).counts))) }
+            × (giver_of both.0 ≡ part_of first.now (giver_of pass))) }
         ensures others { IfOk result (λ both.
             GivesTo self.now both.1 × (both.1.fulls ≡ pass.fulls)
-            × (giver_of both.1 ≡ with_counts (giver_of pass) (others first.now (giver_of pass).counts))) }
+            × (giver_of both.1 ≡ rest_of first.now (giver_of pass))) }
         ensures back { IfErr result (λ unsplit. unsplit.pass ≡ pass) }
     {
         let GivePass { mut pass, fulls } = pass;
@@ -84,18 +86,19 @@ impl<E: Placed> StoneQueue<E> {
         Ok((GivePass { pass, fulls }, rest))
     }
 
-    /// Gives an entry, which is the next of its route. `Full` hands it back, and comes only where the
-    /// queue was full at a step of this call. It takes no memory.
+    /// Gives an entry, which is the next of its route. `Full` hands it back, and comes only where
+    /// the queue was full at a step of this call. It takes no memory.
     pub fn give<R: Wait>(&self, rt: &R, pass: &mut GivePass<E>, entry: E) -> Result<(), Given<E>>
         requires queue { GivesTo self.now pass.old }
         requires next { IsNext E.route_of E.position_of E.flow E.stands_for (giver_of pass.old) entry }
         ensures queue { GivesTo self.now pass.new }
         ensures given { IfOk result (λ _.
-            (giver_of pass.new ≡ with_counts (giver_of pass.old) (raised (E.route_of entry) (giver_of pass.old).counts))
+            (giver_of pass.new ≡ one_more (E.route_of entry) (giver_of pass.old))
             × (pass.new.fulls ≡ pass.old.fulls)) }
         ensures full { IfErr result (λ given. (given ≡ Full entry)
             × (giver_of pass.new ≡ giver_of pass.old) × (pass.new.fulls ≡ counted pass.old.fulls)
-            × Held (capacity_of self.now) (Seen E.route_of E.position_of E.flow E.stands_for (giver_of pass.old))) }
+            × Held (capacity_of self.now)
+            (Seen E.route_of E.position_of E.flow E.stands_for (giver_of pass.old))) }
     {
         let Err(entry) = self.ring.try_push_as::<Gives<E>>(&mut pass.pass, entry) else {
             return Ok(());
@@ -109,16 +112,17 @@ impl<E: Placed> StoneQueue<E> {
         }
     }
 
-    /// Takes an entry, which is the next of its route. None comes only where the queue was empty at
-    /// a step of this call. It takes no memory.
+    /// Takes an entry, which is the next of its route. None comes only where the queue was empty
+    /// at a step of this call. It takes no memory.
     pub fn take<R: Wait>(&self, rt: &R, pass: &mut TakePass<E>) -> Option<E>
         requires { TakesFrom self.now pass.old }
         ensures queue { TakesFrom self.now pass.new }
         ensures taken { IfSome result (λ entry.
             IsNext E.route_of E.position_of E.flow E.stands_for (taker_of pass.old) entry
-            × (taker_of pass.new ≡ with_counts (taker_of pass.old) (raised (E.route_of entry) (taker_of pass.old).counts))
+            × (taker_of pass.new ≡ one_more (E.route_of entry) (taker_of pass.old))
             × (pass.new.empties ≡ pass.old.empties)) }
-        ensures empty { IfNone result ((taker_of pass.new ≡ taker_of pass.old) × (pass.new.empties ≡ counted pass.old.empties)
+        ensures empty { IfNone result ((taker_of pass.new ≡ taker_of pass.old)
+            × (pass.new.empties ≡ counted pass.old.empties)
             × Held 0 (Seen E.route_of E.position_of E.flow E.stands_for (taker_of pass.old))) }
     {
         if let Some(entry) = self.ring.try_pop_as::<Takes<E>>(&mut pass.pass) {
@@ -155,12 +159,13 @@ fn parted<E: Placed, K: Portion>(
     pass: &mut Pass<E, Progress<E::Whole>>,
     first: &[u16],
 ) -> Pass<E, Progress<E::Whole>>
-    requires queue { IsPassOf ring.now pass.old × IsOpen (view pass.old) × ((view pass.old).takes ≡ false) }
+    requires queue { IsPassOf ring.now pass.old × IsOpen (view pass.old)
+        × ((view pass.old).takes ≡ false) }
     requires portion { K.routes ≡ first.now }
     ensures first { IsPassOf ring.now pass.new
-        × (view pass.new ≡ with_counts (view pass.old) (those first.now (view pass.old).counts)) }
+        × (view pass.new ≡ part_of first.now (view pass.old)) }
     ensures others { IsPassOf ring.now result
-        × (view result ≡ with_counts (view pass.old) (others first.now (view pass.old).counts)) }
+        × (view result ≡ rest_of first.now (view pass.old)) }
 {
     ring.another::<Parts<K>>(pass)
 }

@@ -1,7 +1,9 @@
-//! The rule of a stone's queue, and what each of its steps tells. These types are for the proofs alone.
+//! The rule of a stone's queue, and what each of its steps tells. These types are for the proofs
+//! alone.
 ghost use Rattle.std.specs.Prelude.{◌≡◌, List, ℕ, Option, None, [], true, false};
-ghost use Rattle.evp_queue.specs.Counts.{those, others, zeroed, raised};
-ghost use Rattle.evp_queue.specs.Rule.{progress, unopened, with_counts, Ruled, Took, Seen};
+ghost use Rattle.evp_queue.specs.Counts.{zeroed};
+ghost use Rattle.evp_queue.specs.Rule.{progress, unopened, one_more, part_of, rest_of};
+ghost use Rattle.evp_queue.specs.Rule.{Ruled, Took, Seen};
 
 use crate::placed::Placed;
 use crate::progress::Progress;
@@ -29,7 +31,7 @@ pub(crate) struct Gives<E> {
 }
 
 impl<E: Placed> Outcome<E, Progress<E::Whole>> for Gives<E> {
-    ghost then = { λ v entry w. w ≡ with_counts v (raised (E.route_of entry) v.counts) };
+    ghost then = { λ v entry w. w ≡ one_more (E.route_of entry) v };
 }
 
 impl<E: Placed> Lesson<E, Progress<E::Whole>> for Gives<E> {
@@ -88,7 +90,7 @@ pub(crate) struct Parts<K> {
 }
 
 impl<W, K: Portion> Split<Progress<W>> for Parts<K> {
-    ghost left = { λ v. with_counts v (those K.routes v.counts) };
+    ghost left = { part_of K.routes };
 
-    ghost right = { λ v. with_counts v (others K.routes v.counts) };
+    ghost right = { rest_of K.routes };
 }

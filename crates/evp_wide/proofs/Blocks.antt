@@ -1,5 +1,8 @@
 -- What a mask of several elements picks: each element by the places of one.
-use Rattle.std.proofs.Common.{◌≡◌, ℕ, zero, suc, ◌+◌, ◌*◌, ◌<◌, ◌≤◌, ◌⊎◌, Bool, true, ◌&&◌, ◌||◌, List, [], ◌∷◌, ◌++◌, length, take, drop, map, get_or, ltb, leb, sym, refl, ap, ◌∙◌, subst, ⊎_elim, suc-mul, zero-add, drop-drop, arith, append_assoc, length-append, length-take, length-drop, mul-le-mul_left, mul-le-mul_right, add-mul, le_of_mul-le-mul_right}
+use Rattle.std.proofs.Common.{◌≡◌, ℕ, zero, suc, ◌+◌, ◌*◌, ◌<◌, ◌≤◌, ◌⊎◌, true, List, [], ◌∷◌, ◌++◌, length, take}
+use Rattle.std.proofs.Common.{drop, map, get_or, sym, refl, ap, ◌∙◌, ⊎_elim, suc-mul, zero-add, drop-drop, arith}
+use Rattle.std.proofs.Common.{append_assoc, length-append, length-take, length-drop, mul-le-mul_left, mul-le-mul_right, add-mul}
+use Rattle.std.proofs.Common.{le_of_mul-le-mul_right}
 use Rattle.std.proofs.lemmas.Bool.Decides.{nat_tests}
 use Rattle.std.proofs.lemmas.List.{get_or-take, get_or-drop, map-append, length-map, take-append-le, append-nil}
 use Rattle.std.proofs.lemmas.Slice.{take-put_mid}
@@ -29,18 +32,21 @@ joined bound (place ∷ a) b front back =
     let first = first_within bound place a front in
     let others = joined bound a b (others_within bound place a front) back in grind (arith, nat_tests)
 
-moved_on : (bound width : ℕ) (places : List ℕ) → bound + width ≤ 16 → are_within bound places ≡ true → are_within (bound + width) (map (later width) places) ≡ true
+moved_on : (bound width : ℕ) (places : List ℕ) → bound + width ≤ 16 → are_within bound places ≡ true
+    → are_within (bound + width) (map (later width) places) ≡ true
 moved_on bound width [] room is = refl
 moved_on bound width (place ∷ places) room is =
     let first = first_within bound place places is in
     let others = moved_on bound width places room (others_within bound place places is) in grind (arith, nat_tests)
 
-pub within_repeated : (count width : ℕ) (places : List ℕ) → count * width ≤ 16 → are_within width places ≡ true → are_within (count * width) (repeated count width places) ≡ true
+pub within_repeated : (count width : ℕ) (places : List ℕ) → count * width ≤ 16 → are_within width places ≡ true
+    → are_within (count * width) (repeated count width places) ≡ true
 within_repeated zero width places room is = refl
 within_repeated (suc count) width places room is =
     let more = suc-mul count width in
     let rest = within_repeated count width places (omega arith) is in
-    rw more (joined (count * width + width) places (map (later width) (repeated count width places)) (wider width (count * width + width) places (omega arith) is)
+    rw more (joined (count * width + width) places (map (later width) (repeated count width places))
+    (wider width (count * width + width) places (omega arith) is)
     (moved_on (count * width) width (repeated count width places) (omega arith) rest))
 
 pub places_of : (bound : ℕ) (mask : List ℕ) → bound ≤ 16 → are_within bound mask ≡ true → ArePlaces mask
@@ -48,24 +54,28 @@ places_of bound [] room is k d below = absurd (omega arith)
 places_of bound (place ∷ mask) room is zero d below = let first = first_within bound place mask is in grind arith
 places_of bound (place ∷ mask) room is (suc k) d below = places_of bound mask room (others_within bound place mask is) k d (omega arith)
 
-one_later : (width bound place : ℕ) (bytes : List ℕ) → bound + width ≤ 16 → (place < bound) ⊎ (128 ≤ place) → picked bytes (later width place) ≡ picked (drop width bytes) place
+one_later : (width bound place : ℕ) (bytes : List ℕ) → bound + width ≤ 16 → (place < bound) ⊎ (128 ≤ place)
+    → picked bytes (later width place) ≡ picked (drop width bytes) place
 one_later width bound place bytes room is =
     let same = get_or-drop width bytes place 0 in
     let on : place + width ≡ width + place = omega arith in
     let moved = ap (λ k. get_or bytes k 0) on in grind (arith, nat_tests)
 
-all_later : (width bound : ℕ) (places bytes : List ℕ) → bound + width ≤ 16 → are_within bound places ≡ true → gathered (map (later width) places) bytes ≡ gathered places (drop width bytes)
+all_later : (width bound : ℕ) (places bytes : List ℕ) → bound + width ≤ 16 → are_within bound places ≡ true
+    → gathered (map (later width) places) bytes ≡ gathered places (drop width bytes)
 all_later width bound [] bytes room is = refl
 all_later width bound (place ∷ places) bytes room is =
     let first = one_later width bound place bytes room (first_within bound place places is) in
     let others = all_later width bound places bytes room (others_within bound place places is) in
     λ i. first i ∷ others i
 
-one_near : (width place : ℕ) (bytes : List ℕ) → width ≤ 16 → (place < width) ⊎ (128 ≤ place) → picked bytes place ≡ picked (take width bytes) place
+one_near : (width place : ℕ) (bytes : List ℕ) → width ≤ 16 → (place < width) ⊎ (128 ≤ place) → picked bytes place
+    ≡ picked (take width bytes) place
 one_near width place bytes room is =
     ⊎_elim (λ below. let same = get_or-take width bytes place 0 below in grind (arith, nat_tests)) (λ none. grind (arith, nat_tests)) is
 
-all_near : (width : ℕ) (places bytes : List ℕ) → width ≤ 16 → are_within width places ≡ true → gathered places bytes ≡ gathered places (take width bytes)
+all_near : (width : ℕ) (places bytes : List ℕ) → width ≤ 16 → are_within width places ≡ true → gathered places bytes
+    ≡ gathered places (take width bytes)
 all_near width [] bytes room is = refl
 all_near width (place ∷ places) bytes room is =
     let first = one_near width place bytes room (first_within width place places is) in
@@ -82,18 +92,22 @@ each_gathered (suc count) width places bytes room is =
     map-append (picked bytes) places (map (later width) rest)
     ∙ ap (λ l. l ++ gathered (map (later width) rest) bytes) (all_near width places bytes (omega arith) is)
     ∙ ap (λ l. gathered places (take width bytes) ++ l)
-    (all_later width (count * width) rest bytes (omega arith) (within_repeated count width places (omega arith) is) ∙ each_gathered count width places (drop width bytes) (omega arith) is)
+    (all_later width (count * width) rest bytes (omega arith) (within_repeated count width places (omega arith) is)
+    ∙ each_gathered count width places (drop width bytes) (omega arith) is)
 
 pub room_for : (count out_size from_size : ℕ) → count * out_size ≡ 16 → from_size ≤ out_size → count * from_size ≤ 16
-room_for count out_size from_size whole shorter = let le : count * from_size ≤ count * out_size = mul-le-mul_left count shorter in omega arith
+room_for count out_size from_size whole shorter =
+    let le : count * from_size ≤ count * out_size = mul-le-mul_left count shorter in omega arith
 
 -- groups, and further ones
-pub groups-add : (size a b : ℕ) (bytes : List ℕ) → groups size (a + b) bytes ≡ groups size a bytes ++ groups size b (drop (a * size) bytes)
+pub groups-add : (size a b : ℕ) (bytes : List ℕ) → groups size (a + b) bytes ≡ groups size a bytes
+    ++ groups size b (drop (a * size) bytes)
 groups-add size zero b bytes = let none : 0 * size ≡ 0 = omega arith in rw (zero-add b, none)
 groups-add size (suc a) b bytes =
     let on : suc a + b ≡ suc (a + b) = omega arith in
     let more = suc-mul a size in
-    rw on (ap (λ l. take size bytes ∷ l) (groups-add size a b (drop size bytes) ∙ ap (λ l. groups size a (drop size bytes) ++ groups size b l)
+    rw on (ap (λ l. take size bytes ∷ l) (groups-add size a b (drop size bytes)
+    ∙ ap (λ l. groups size a (drop size bytes) ++ groups size b l)
     (drop-drop (a * size) size bytes ∙ ap (λ n. drop n bytes) (omega arith))))
 
 -- one block more: its elements stand behind those that were made
@@ -148,11 +162,16 @@ pub part_picked : (out part from mask : List ℕ) (out_size from_size count elem
 part_picked out part from mask out_size from_size count element number k j long below k_is j_is whole sixteen is =
     let next : suc element * out_size ≤ number * out_size = mul-le-mul_right out_size below in
     let more = suc-mul element out_size in
-    let held : length (take k (drop (element * out_size) out)) ≡ out_size = omega (arith, length-take k (drop (element * out_size) out), length-drop (element * out_size) out) in
+    let held : length (take k (drop (element * out_size) out)) ≡ out_size = omega
+    (arith, length-take k (drop (element * out_size) out), length-drop (element * out_size) out) in
     let few = small count out_size whole in
     let now : part ≡ gathered (take out_size mask) (take from_size (drop (element * from_size) from)) =
-    is ∙ ap (λ n. gathered (take n mask) (take j (drop (element * from_size) from))) held ∙ ap (λ n. gathered (take out_size mask) (take n (drop (element * from_size) from))) j_is in
-    (now, ap length now ∙ length-map (take out_size mask) (picked (take from_size (drop (element * from_size) from))) ∙ omega (arith, length-take out_size mask))
+    is ∙ ap (λ n. gathered (take n mask) (take j (drop (element * from_size) from))) held
+    ∙ ap (λ n. gathered (take out_size mask) (take n (drop (element * from_size) from))) j_is in (
+      now,
+      ap length now ∙ length-map (take out_size mask) (picked (take from_size (drop (element * from_size) from)))
+          ∙ omega (arith, length-take out_size mask),
+    )
 
 -- two functions that agree on elements agree on all of them
 pub same_groups : (P : List ℕ → Type 0) (f g : List ℕ → List ℕ) (size count : ℕ) (bytes : List ℕ)
@@ -164,7 +183,8 @@ same_groups P f g size (suc count) bytes front back same room all =
     let more = suc-mul count size in
     let long : length (take size bytes) ≡ size = omega (arith, length-take size bytes) in
     let first = same (take size bytes) long (front size bytes all) in
-    let others = same_groups P f g size count (drop size bytes) front back same (omega (arith, length-drop size bytes)) (back size bytes all) in
+    let others = same_groups P f g size count (drop size bytes) front back same (omega (arith, length-drop size bytes))
+    (back size bytes all) in
     ap (λ l. l ++ flat_map f (groups size count (drop size bytes))) first ∙ ap (λ l. g (take size bytes) ++ l) others
 
 pub no_more : (element number out_size : ℕ) → 0 < out_size → element * out_size ≤ number * out_size → element ≤ number

@@ -1,5 +1,5 @@
 -- The definitions, computed on worked bytes.
-use Rattle.std.proofs.Common.{◌≡◌, List, [], ◌∷◌, refl}
+use Rattle.std.proofs.Common.{◌≡◌, [], ◌∷◌, refl}
 use Rattle.evp_base.specs.declared.kind.Kind.TheVariants.{Int, Unsigned}
 use Rattle.evp_base.specs.declared.order.Order.TheVariants.{Little, Big}
 use Rattle.evp_wide.specs.Groups.{elements}

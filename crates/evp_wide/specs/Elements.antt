@@ -12,4 +12,5 @@ swapped size bytes = flat_map reverse (elements size bytes)
 -- each number of one order and size written in another order and size
 abbrev pub rewritten : Kind → Order → ℕ → Order → ℕ → List ℕ → List ℕ
 rewritten kind out_order out_size from_order from_size bytes =
-    flat_map (λ element. digits out_order out_size (number from_order kind element)) (elements from_size bytes)
+    flat_map (λ element. digits out_order out_size (number from_order kind element))
+    (elements from_size bytes)

@@ -1,6 +1,7 @@
 -- Bytes picked from a window of sixteen.
 use lib.Lanes.{zip2}
-use Rattle.std.specs.Prelude.{ℕ, ◌<◌, ◌≤◌, ◌⊎◌, nat_lt, if◌then◌else◌, List, map, slice_index, All, bit_or}
+use Rattle.std.specs.Prelude.{ℕ, ◌<◌, ◌≤◌, ◌⊎◌, nat_lt, if◌then◌else◌, List, map, slice_index}
+use Rattle.std.specs.Prelude.{All, bit_or}
 
 -- a byte of the window, or 0 where the place is none
 abbrev pub picked : List ℕ → ℕ → ℕ

@@ -1,10 +1,12 @@
 -- Masks of several elements of one size.
-use Rattle.std.specs.Prelude.{ℕ, zero, suc, ◌+◌, nat_lt, nat_le, if◌then◌else◌, Bool, true, ◌&&◌, ◌||◌, List, [], ◌∷◌, ◌++◌, map}
+use Rattle.std.specs.Prelude.{ℕ, zero, suc, ◌+◌, nat_lt, nat_le, if◌then◌else◌, Bool, true, ◌&&◌}
+use Rattle.std.specs.Prelude.{◌||◌, List, [], ◌∷◌, ◌++◌, map}
 
 -- each place is below a bound, or none
 abbrev pub are_within : ℕ → List ℕ → Bool
 are_within bound [] = true
-are_within bound (place ∷ places) = (nat_lt place bound || nat_le 128 place) && are_within bound places
+are_within bound (place ∷ places) = (nat_lt place bound || nat_le 128 place) && are_within bound
+    places
 
 -- the place so many bytes on
 abbrev pub later : ℕ → ℕ → ℕ

@@ -7,8 +7,8 @@ ghost use Rattle.evp_wide.specs.Masks.{are_within, repeated};
 use crate::lanes::{gather_few, gather_lanes};
 use std::simd::prelude::*;
 
-/// How each element of an answer is made from one of another size: by the mask's first places, which
-/// come again for each further element in sixteen bytes of the answer.
+/// How each element of an answer is made from one of another size: by the mask's first places,
+/// which come again for each further element in sixteen bytes of the answer.
 #[derive(Clone, Copy)]
 pub(crate) struct Mover {
     pub(crate) out_size: usize,
@@ -29,7 +29,8 @@ fn move_blocks(out: &mut [u8], from: &[u8], mover: &Mover) -> usize
     ensures length { length out.new ≡ length out.old }
     ensures within { result * mover.now.out_size ≤ length out.new }
     ensures made { take (result * mover.now.out_size) out.new
-        ≡ flat_map (gathered (take mover.now.out_size mover.now.mask)) (groups mover.now.from_size result from.now) }
+        ≡ flat_map (gathered (take mover.now.out_size mover.now.mask))
+        (groups mover.now.from_size result from.now) }
 {
     let step = mover.from_size * mover.count;
     let mask = u8x16::from_array(mover.mask);
@@ -51,9 +52,11 @@ fn move_rest(out: &mut [u8], from: &[u8], mover: &Mover, done: usize, number: us
     requires from { length from.now ≡ number * mover.now.from_size }
     requires done { done ≤ number }
     requires made { take (done * mover.now.out_size) out.old
-        ≡ flat_map (gathered (take mover.now.out_size mover.now.mask)) (groups mover.now.from_size done from.now) }
+        ≡ flat_map (gathered (take mover.now.out_size mover.now.mask))
+        (groups mover.now.from_size done from.now) }
     ensures { out.new
-        ≡ flat_map (gathered (take mover.now.out_size mover.now.mask)) (groups mover.now.from_size number from.now) }
+        ≡ flat_map (gathered (take mover.now.out_size mover.now.mask))
+        (groups mover.now.from_size number from.now) }
 {
     for element in done..number {
         let out_at = element * mover.out_size;
@@ -71,7 +74,8 @@ pub(crate) fn move_elements(out: &mut [u8], from: &[u8], mover: &Mover, number: 
     requires out { length out.old ≡ number * mover.now.out_size }
     requires from { length from.now ≡ number * mover.now.from_size }
     ensures { out.new
-        ≡ flat_map (gathered (take mover.now.out_size mover.now.mask)) (groups mover.now.from_size number from.now) }
+        ≡ flat_map (gathered (take mover.now.out_size mover.now.mask))
+        (groups mover.now.from_size number from.now) }
 {
     let done = move_blocks(out, from, mover);
     move_rest(out, from, mover, done, number);

@@ -14,14 +14,15 @@ pub struct Mask {
     ghost in_window: { are_within 16 places ≡ true },
 }
 
-/// Writes sixteen bytes from `to` on: those that the mask picks of the sixteen from `at` on. Takes no
-/// memory.
+/// Writes sixteen bytes from `to` on: those that the mask picks of the sixteen from `at` on. It
+/// takes no memory.
 #[inline(always)]
 pub fn gather(out: &mut [u8], to: usize, from: &[u8], at: usize, mask: &Mask)
     requires window { at + 16 ≤ length from.now }
     requires room { to + 16 ≤ length out.old }
     ensures { out.new
-        ≡ take to out.old ++ (gathered mask.now.places (drop at from.now) ++ drop (to + 16) out.old) }
+        ≡ take to out.old
+        ++ (gathered mask.now.places (drop at from.now) ++ drop (to + 16) out.old) }
 {
     gather_lanes(out, to, from, at, u8x16::from_array(mask.places));
 }
@@ -39,7 +40,8 @@ pub fn gather_or(
     requires window { at + 16 ≤ length from.now }
     requires room { to + 16 ≤ length out.old }
     ensures { out.new
-        ≡ take to out.old ++ (with_constant (gathered mask.now.places (drop at from.now)) constant.now
+        ≡ take to out.old
+        ++ (with_constant (gathered mask.now.places (drop at from.now)) constant.now
         ++ drop (to + 16) out.old) }
 {
     let window = u8x16::from_slice(&from[at..]);
@@ -54,7 +56,8 @@ pub(crate) fn gather_lanes(out: &mut [u8], to: usize, from: &[u8], at: usize, ma
     requires mask { ArePlaces mask × (length mask ≡ 16) }
     requires window { at + 16 ≤ length from.now }
     requires room { to + 16 ≤ length out.old }
-    ensures { out.new ≡ take to out.old ++ (gathered mask (drop at from.now) ++ drop (to + 16) out.old) }
+    ensures { out.new ≡ take to out.old ++
+        (gathered mask (drop at from.now) ++ drop (to + 16) out.old) }
 {
     let window = u8x16::from_slice(&from[at..]);
     window
@@ -62,7 +65,8 @@ pub(crate) fn gather_lanes(out: &mut [u8], to: usize, from: &[u8], at: usize, ma
         .copy_to_slice(&mut out[to..]);
 }
 
-// Writes all of `out`: the bytes of a window of sixteen or fewer that the mask's first places pick.
+// Writes all of `out`: the bytes of a window of sixteen or fewer that the mask's first places
+// pick.
 pub(crate) fn gather_few(out: &mut [u8], from: &[u8], mask: &[u8; 16])
     requires { (length out.old ≤ 16) × (length from.now ≤ 16) }
     ensures { out.new ≡ gathered (take (length out.old) mask.now) from.now }

@@ -25,7 +25,11 @@ fn groups_are_reversed(rt: HostRuntime) -> Result<(), Fail> {
     swap4(&mut turned, &long);
     for k in 0..37u8 {
         let at = usize::from(k) * 4;
-        assert_eq!(rt; &turned[at..at + 4], [k + 1, 0, 0, 0].as_slice(), "number {k}");
+        assert_eq!(rt;
+            &turned[at..at + 4],
+            [k + 1, 0, 0, 0].as_slice(),
+            "number {k}"
+        );
     }
     Ok(())
 }
@@ -54,7 +58,11 @@ fn numbers_keep_their_value(rt: HostRuntime) -> Result<(), Fail> {
     widen_unsigned(&mut wide, 8, Order::Big, &from, 2, Order::Little);
     for k in 0..20u8 {
         let at = usize::from(k) * 8;
-        assert_eq!(rt; &wide[at..at + 8], [0, 0, 0, 0, 0, 0, 0x80, k].as_slice(), "number {k}");
+        assert_eq!(rt;
+            &wide[at..at + 8],
+            [0, 0, 0, 0, 0, 0, 0x80, k].as_slice(),
+            "number {k}"
+        );
     }
     Ok(())
 }

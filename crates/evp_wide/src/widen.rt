@@ -16,7 +16,8 @@ pub fn widen_unsigned(
     from_size: u32,
     from_order: Order,
 )
-    requires sizes { IsTrue (is_width out_size) × IsTrue (is_width from_size) × (from_size ≤ out_size) }
+    requires sizes { IsTrue (is_width out_size) × IsTrue (is_width from_size)
+        × (from_size ≤ out_size) }
     requires whole { length from.now % from_size ≡ 0 }
     requires out { length out.old ≡ length from.now / from_size * out_size }
     ensures { out.new ≡ rewritten Unsigned out_order out_size from_order from_size from.now }
@@ -32,8 +33,8 @@ pub fn widen_unsigned(
     );
 }
 
-/// Writes each signed number of `from`, of `from_size` bytes, as a number of `out_size` bytes. Sizes
-/// are 1, 2, 4 or 8. Takes no memory.
+/// Writes each signed number of `from`, of `from_size` bytes, as a number of `out_size` bytes.
+/// Sizes are 1, 2, 4 or 8. Takes no memory.
 pub fn widen_signed(
     out: &mut [u8],
     out_size: u32,
@@ -42,7 +43,8 @@ pub fn widen_signed(
     from_size: u32,
     from_order: Order,
 )
-    requires sizes { IsTrue (is_width out_size) × IsTrue (is_width from_size) × (from_size ≤ out_size) }
+    requires sizes { IsTrue (is_width out_size) × IsTrue (is_width from_size)
+        × (from_size ≤ out_size) }
     requires whole { length from.now % from_size ≡ 0 }
     requires out { length out.old ≡ length from.now / from_size * out_size }
     ensures { out.new ≡ rewritten Int out_order out_size from_order from_size from.now }
@@ -68,7 +70,8 @@ fn rewrite(
     from_order: Order,
     kind: Kind,
 )
-    requires sizes { IsTrue (is_width out_size) × IsTrue (is_width from_size) × (from_size ≤ out_size) }
+    requires sizes { IsTrue (is_width out_size) × IsTrue (is_width from_size)
+        × (from_size ≤ out_size) }
     requires kind { (kind ≡ Unsigned) ⊎ (kind ≡ Int) }
     requires whole { length from.now % from_size ≡ 0 }
     requires out { length out.old ≡ length from.now / from_size * out_size }

@@ -1,8 +1,8 @@
 //! Four givers of three routes each and one taker, each in a thread of its own.
 ghost use Rattle.std.specs.Prelude.{◌≡◌, ◌+◌, ◌<◌, Some, IfSome, false, [], ◌∷◌};
 ghost use Rattle.std.specs.Thread.{IsSync};
-ghost use Rattle.evp_queue.specs.Counts.{raised, zeroed};
-ghost use Rattle.evp_queue.specs.Rule.{progress, with_counts, IsNext};
+ghost use Rattle.evp_queue.specs.Counts.{zeroed};
+ghost use Rattle.evp_queue.specs.Rule.{progress, one_more, IsNext};
 ghost use Rattle.evp_queue.specs.Passes.{giver_of, GivesTo, TakesFrom};
 
 use crate::{GivePass, Given, Placed, StoneQueue, TakePass};
@@ -62,7 +62,7 @@ fn give_again<E: Placed + Drop, R: Wait>(
     requires next { IsNext E.route_of E.position_of E.flow E.stands_for (giver_of pass.old) entry }
     ensures queue { GivesTo queue.now pass.new }
     ensures given { giver_of pass.new
-        ≡ with_counts (giver_of pass.old) (raised (E.route_of entry) (giver_of pass.old).counts) }
+        ≡ one_more (E.route_of entry) (giver_of pass.old) }
 {
     for _ in rt.forever() {
         match queue.give(rt, pass, entry) {
@@ -170,11 +170,14 @@ fn in_two<R: Wait>(
     requires queue { GivesTo queue.now pass }
     requires small { first < 50 }
     requires six { giver_of pass ≡ progress (Some (record { number = number })) false
-        (zeroed (first ∷ (first + 1) ∷ (first + 2) ∷ (first + 3) ∷ (first + 3 + 1) ∷ (first + 3 + 2) ∷ [])) }
+        (zeroed (first ∷ (first + 1) ∷ (first + 2)
+        ∷ (first + 3) ∷ (first + 3 + 1) ∷ (first + 3 + 2) ∷ [])) }
     ensures queue { IfSome result (λ two. GivesTo queue.now two.0 × GivesTo queue.now two.1) }
-    ensures front { IfSome result (λ two. giver_of two.0 ≡ progress (Some (record { number = number })) false
+    ensures front { IfSome result (λ two. giver_of two.0
+        ≡ progress (Some (record { number = number })) false
         ((first, 0) ∷ (first + 1, 0) ∷ (first + 2, 0) ∷ [])) }
-    ensures back { IfSome result (λ two. giver_of two.1 ≡ progress (Some (record { number = number })) false
+    ensures back { IfSome result (λ two. giver_of two.1
+        ≡ progress (Some (record { number = number })) false
         ((first + 3, 0) ∷ (first + 3 + 1, 0) ∷ (first + 3 + 2, 0) ∷ [])) }
 {
     queue.split(rt, pass, &[first, first + 1, first + 2]).ok()
@@ -191,7 +194,8 @@ fn give_six<R: Threads + Wait + Sync>(
     requires queue { GivesTo queue.now pass }
     requires small { first < 50 }
     requires six { giver_of pass ≡ progress (Some (record { number = number })) false
-        (zeroed (first ∷ (first + 1) ∷ (first + 2) ∷ (first + 3) ∷ (first + 3 + 1) ∷ (first + 3 + 2) ∷ [])) }
+        (zeroed (first ∷ (first + 1) ∷ (first + 2)
+        ∷ (first + 3) ∷ (first + 3 + 1) ∷ (first + 3 + 2) ∷ [])) }
 {
     if let Some((one, two)) = in_two(rt, queue, pass, first, number) {
         give_both(rt, queue, one, two, first, number);
@@ -227,18 +231,22 @@ fn all_at_once<R: Threads + Wait + Sync>(
     total: u32,
 ) -> [u32; 12]
     requires queue { GivesTo queue.now front × GivesTo queue.now back × TakesFrom queue.now take }
-    requires front { giver_of front ≡ progress (Some (record { number = number })) false (zeroed (0 ∷ 1 ∷ 2 ∷ 3 ∷ 4 ∷ 5 ∷ [])) }
-    requires back { giver_of back ≡ progress (Some (record { number = number })) false (zeroed (6 ∷ 7 ∷ 8 ∷ 9 ∷ 10 ∷ 11 ∷ [])) }
+    requires front { giver_of front ≡ progress (Some (record { number = number })) false
+        (zeroed (0 ∷ 1 ∷ 2 ∷ 3 ∷ 4 ∷ 5 ∷ [])) }
+    requires back { giver_of back ≡ progress (Some (record { number = number })) false
+        (zeroed (6 ∷ 7 ∷ 8 ∷ 9 ∷ 10 ∷ 11 ∷ [])) }
 {
     let (_, (_, next)) = join(
         rt,
         move ||
             requires { IsSync R.row × GivesTo queue.now front
-                × (giver_of front ≡ progress (Some (record { number = number })) false (zeroed (0 ∷ 1 ∷ 2 ∷ 3 ∷ 4 ∷ 5 ∷ []))) }
+                × (giver_of front ≡ progress (Some (record { number = number })) false
+                (zeroed (0 ∷ 1 ∷ 2 ∷ 3 ∷ 4 ∷ 5 ∷ []))) }
         { give_six(rt, queue, front, 0, number) },
         move ||
             requires { IsSync R.row × GivesTo queue.now back × TakesFrom queue.now take
-                × (giver_of back ≡ progress (Some (record { number = number })) false (zeroed (6 ∷ 7 ∷ 8 ∷ 9 ∷ 10 ∷ 11 ∷ []))) }
+                × (giver_of back ≡ progress (Some (record { number = number })) false
+                (zeroed (6 ∷ 7 ∷ 8 ∷ 9 ∷ 10 ∷ 11 ∷ []))) }
         { take_beside(rt, queue, back, take, number, total) },
     );
     next
@@ -254,13 +262,15 @@ fn take_beside<R: Threads + Wait + Sync>(
     total: u32,
 ) -> ((), [u32; 12])
     requires queue { GivesTo queue.now back × TakesFrom queue.now take }
-    requires back { giver_of back ≡ progress (Some (record { number = number })) false (zeroed (6 ∷ 7 ∷ 8 ∷ 9 ∷ 10 ∷ 11 ∷ [])) }
+    requires back { giver_of back ≡ progress (Some (record { number = number })) false
+        (zeroed (6 ∷ 7 ∷ 8 ∷ 9 ∷ 10 ∷ 11 ∷ [])) }
 {
     join(
         rt,
         move ||
             requires { IsSync R.row × GivesTo queue.now back
-                × (giver_of back ≡ progress (Some (record { number = number })) false (zeroed (6 ∷ 7 ∷ 8 ∷ 9 ∷ 10 ∷ 11 ∷ []))) }
+                × (giver_of back ≡ progress (Some (record { number = number })) false
+                (zeroed (6 ∷ 7 ∷ 8 ∷ 9 ∷ 10 ∷ 11 ∷ []))) }
         { give_six(rt, queue, back, 6, number) },
         move ||
             requires { TakesFrom queue.now take }

@@ -1,5 +1,5 @@
-use Rattle.std.proofs.Common.{◌≡◌, ◌+◌, ◌*◌, ◌≤◌, sym, ap, ◌∙◌, subst, add-mul, mul_comm, arith}
-use Rattle.evp_wide.specs.Masks.{are_within, repeated}
+use Rattle.std.proofs.Common.{◌*◌, ap, ◌∙◌, add-mul, mul_comm, arith}
+use Rattle.evp_wide.specs.Masks.{are_within}
 use Rattle.evp_wide.proofs.Blocks.{block_made, within_repeated, places_of, room_for}
 use Rattle.evp_wide.proofs.elements.move_blocks.Goals as goal
 
@@ -27,6 +27,8 @@ loop-out_at-preserved c =
       from_place = omega arith;
       within = omega arith;
       before = omega arith;
-      made = block_made c.loop-out_at.out c.gather_lanes.new.out c.args.from.now m.mask _ m.from_size m.count c.loop-out_at.done c.loop-out_at.out_at
-          c.loop-out_at.from_at m.repeats m.within room c.type_inv.mask.0 c.loop-out_at-test.true l.from_place l.made c.gather_lanes.ensures;
+      made = block_made c.loop-out_at.out c.gather_lanes.new.out c.args.from.now m.mask _ m.from_size m.count c.loop-out_at.done
+          c.loop-out_at.out_at
+          c.loop-out_at.from_at m.repeats m.within room c.type_inv.mask.0 c.loop-out_at-test.true l.from_place l.made
+          c.gather_lanes.ensures;
     }

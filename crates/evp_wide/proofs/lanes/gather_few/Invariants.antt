@@ -1,4 +1,4 @@
-use Rattle.std.proofs.Common.{◌≡◌, ◌≤◌, length, take}
+use Rattle.std.proofs.Common.{◌≡◌, length, take}
 use Rattle.evp_wide.specs.Gathered.{gathered}
 use Rattle.evp_wide.proofs.lanes.gather_few.Given as goal
 

@@ -9,4 +9,5 @@ swizzle-picked c = let m = c.args.mask.now in allowed m.places m.sixteen (places
 pub returns : goal.returns
 returns c =
     let m = c.args.mask.now in
-    stored_with c.args.to c.args.out.now _ m.places c.args.constant.now c.requires.room m.sixteen c.told-constant (places_of 16 m.places (omega arith) m.in_window)
+    stored_with c.args.to c.args.out.now _ m.places c.args.constant.now c.requires.room m.sixteen c.told-constant
+    (places_of 16 m.places (omega arith) m.in_window)

@@ -63,5 +63,9 @@ give_again-requires-in-loop-position-2-clause-next g c =
           ∙ ap (λ v. count_at (first + 2) (raised (first + 1) (raised first v.counts))) was
           ∙ ap (λ l. count_at (first + 2) (raised (first + 1) l)) (raised-first first p p p)
           ∙ ap (count_at (first + 2)) (raised-second first (p + 1) p p) ∙ at_third first (p + 1) (p + 1) p,
-      (_, ap (λ v. v.whole) two ∙ ap (λ v. v.whole) one ∙ ap (λ v. v.whole) was, (p, step_at c.args.number p c.loop-position-test.true, refl)),
+      (
+        _,
+        ap (λ v. v.whole) two ∙ ap (λ v. v.whole) one ∙ ap (λ v. v.whole) was,
+        (p, step_at c.args.number p c.loop-position-test.true, refl),
+      ),
     )

@@ -7,8 +7,14 @@ use Rattle.evp_queue.proofs.tests.one_place.an_item_and_a_mark.Goals as goal
 
 pub give-requires-clause-next : goal.give-requires-clause-next
 give-requires-clause-next g c =
-    let is = c.in_ok-queue.ensures.give.2 in
-    (ap (λ v. count_at 0 v.counts) is, (_, ap (λ v. v.whole) is, (Record 3 _, refl, (refl, ap (λ o. o.bytes) c.in_ok-owned.ensures.ok))))
+    let is = c.in_ok-queue.ensures.give.2 in (
+      ap (λ v. count_at 0 v.counts) is,
+      (
+        _,
+        ap (λ v. v.whole) is,
+        (Record 3 _, refl, (refl, ap (λ o. o.bytes) c.in_ok-owned.ensures.ok)),
+      ),
+    )
 
 pub give-requires-2-clause-next : goal.give-requires-2-clause-next
 give-requires-2-clause-next g c =

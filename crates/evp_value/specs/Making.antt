@@ -1,12 +1,16 @@
--- Parts of a conversion, each by the format's types: what a body answers for each is what the definition of conversion makes of it.
-use Rattle.std.specs.Prelude.{◌≡◌, ℕ, zero, suc, ◌+◌, ◌*◌, ℤ, pos, negsuc, Bool, false, not, nat_lt, if◌then◌else◌, List, [], ◌∷◌, ◌++◌, Option, Some, None, Result, Ok, Err, ⊤}
+-- Parts of a conversion, each by the format's types: what a body answers for each is what the
+-- definition of conversion makes of it.
+use Rattle.std.specs.Prelude.{◌≡◌, ℕ, zero, suc, ◌+◌, ◌*◌, ℤ, pos, negsuc, Bool, false, not, nat_lt}
+use Rattle.std.specs.Prelude.{if◌then◌else◌, List, [], ◌∷◌, ◌++◌, Option, Some, None, Result, Ok}
+use Rattle.std.specs.Prelude.{Err, ⊤}
 use Rattle.evp_format.specs.declared.field.Field.{Field}
 use Rattle.evp_format.specs.declared.field.Shape.{Shape}
 use Rattle.evp_format.specs.declared.field.Shape.TheVariants.{One, Fixed, Counted}
 use Rattle.evp_format.specs.declared.place.PlaceStep.{PlaceStep}
 use Rattle.evp_format.specs.declared.place.PlaceStep.TheVariants.{Nth}
 use Rattle.evp_format.specs.Bytes.{next_block}
-use Rattle.evp_format.specs.Converting.{has_other_length, Made, made, unfit, large, make_list, make_or_zero, make_shaped, make_part}
+use Rattle.evp_format.specs.Converting.{has_other_length, Made, made, unfit, large, make_list}
+use Rattle.evp_format.specs.Converting.{make_or_zero, make_shaped, make_part}
 use Rattle.evp_format.specs.Datum.{Datum, num, null, text, list, rec, Elements, elements_of}
 use Rattle.evp_format.specs.Layout.{Layout}
 use Rattle.evp_format.specs.Tree.{part_in}
@@ -29,26 +33,33 @@ Gives view (Err refused) size said = IsRefusal refused said
 
 -- the element of this index of an array at a place
 abbrev pub make_at : ℕ → Layout → Field → List PlaceStep → ℕ → Datum → ℕ → Made Datum
-make_at limit layout field place index datum size = make_part limit (part_in layout field) field.size (place ++ Nth index ∷ []) datum size
+make_at limit layout field place index datum size = make_part limit (part_in layout field)
+    field.size (place ++ Nth index ∷ []) datum size
 
 -- an array field by its wanted length
 abbrev pub make_array : ℕ → Layout → Field → ℤ → List PlaceStep → Option Datum → ℕ → Made Datum
 make_array limit layout field wanted place partner size =
-    make_list limit field place wanted (elements_of partner) (zero_part (part_in layout field)) (make_at limit layout field place) size
+    make_list limit field place wanted (elements_of partner) (zero_part (part_in layout field))
+    (make_at limit layout field place) size
 
 -- its n elements, where its length and its block are settled
 abbrev pub make_inside : ℕ → Layout → Field → ℕ → List PlaceStep → Option Datum → ℕ → Made Datum
-make_inside limit layout field n place partner size = make_or_zero (make_at limit layout field place) (zero_part (part_in layout field)) n (elements_of partner) size
+make_inside limit layout field n place partner size = make_or_zero
+    (make_at limit layout field place) (zero_part (part_in layout field)) n (elements_of partner)
+    size
 
 -- a field, where the numbers of all fields of its type are known
-abbrev pub make_field : ℕ → Layout → Field → List ℤ → ℕ → List PlaceStep → Option Datum → ℕ → Made Datum
+abbrev pub make_field : ℕ → Layout → Field → List ℤ → ℕ → List PlaceStep → Option Datum → ℕ
+    → Made Datum
 make_field limit layout field numbers k place partner size =
     make_shaped limit field field.shape (part_in layout field) numbers k place partner
-    (λ place' datum after. make_part limit (part_in layout field) field.size place' datum after) size
+    (λ place' datum after. make_part limit (part_in layout field) field.size place' datum after)
+    size
 
 -- the size behind a block of k bytes; none where it passes the limit
 abbrev pub block_end : ℕ → ℕ → ℕ → Option ℕ
-block_end limit k size = if nat_lt limit (next_block size + k) then None else Some (next_block size + k)
+block_end limit k size = if nat_lt limit (next_block size + k) then None
+    else Some (next_block size + k)
 
 -- the size behind the block of a list of n elements, which an empty list hasn't
 abbrev pub list_end : ℕ → ℕ → ℕ → ℕ → Option ℕ

@@ -38,7 +38,8 @@ pub(crate) fn list_end(limit: u32, count: i128, element_size: u32, size: u32) ->
 
 // Whether the wanted length isn't below 0 and a partner, where there is one, has it.
 pub(crate) fn has_length(partner: Option<&Value>, count: i128) -> bool
-    ensures { result ≡ has_length count (elements_of (option_map (λ value. datum_of value.now) partner.entry)) }
+    ensures { result ≡ has_length count
+        (elements_of (option_map (λ value. datum_of value.now) partner.entry)) }
 {
     if count < 0 {
         return false;

@@ -1,4 +1,5 @@
 //! Conversions, whose answers were worked out by hand.
+use crate::sample_formats::*;
 use crate::{convert_value, value_text};
 use evp_base::Name;
 use evp_format::{Items, Members, TextBytes, Value, read_description};
@@ -60,448 +61,159 @@ fn answer(
     }
 }
 
-const EVERY_KIND: &[u8] =
-    b"NDF1\0\x04\0\x01\x01p\0\0\0\x18\0\x04\x01b\x07boolean\0\0\0\x04\0\0\0\0\x01c\x04char\0\0\0\x01\0\
-    \0\0\x04\x01i\x07integer\0\0\0\x08\0\0\0\x08\x01u\x10unsigned integer\0\0\0\x08\0\0\0\x10";
-
-const B_AS_SIGNED_BYTE: &[u8] =
-    b"NDF1\x01\x04\0\x01\x01p\0\0\0\x08\0\x01\x01b\x07integer\0\0\0\x01\0\0\0\0";
-
-const C_AS_SIGNED_BYTE: &[u8] =
-    b"NDF1\x01\x04\0\x01\x01p\0\0\0\x08\0\x01\x01c\x07integer\0\0\0\x01\0\0\0\0";
-
-const C_AS_ENUMERATION: &[u8] =
-    b"NDF1\x01\x04\0\x01\x01p\0\0\0\x08\0\x01\x01c\x0benumeration\0\0\0\x02\0\0\0\0";
-
-const C_AS_BOOLEAN: &[u8] =
-    b"NDF1\x01\x04\0\x01\x01p\0\0\0\x08\0\x01\x01c\x07boolean\0\0\0\x01\0\0\0\0";
-
-const C_AS_WIDE_BOOLEAN: &[u8] =
-    b"NDF1\x01\x04\0\x01\x01p\0\0\0\x08\0\x01\x01c\x07boolean\0\0\0\x08\0\0\0\0";
-
-const I_AS_BOOLEAN: &[u8] =
-    b"NDF1\x01\x04\0\x01\x01p\0\0\0\x08\0\x01\x01i\x07boolean\0\0\0\x08\0\0\0\0";
-
-const I_AS_CHAR: &[u8] = b"NDF1\x01\x04\0\x01\x01p\0\0\0\x08\0\x01\x01i\x04char\0\0\0\x01\0\0\0\0";
-
-const U_AS_SIGNED: &[u8] =
-    b"NDF1\x01\x04\0\x01\x01p\0\0\0\x08\0\x01\x01u\x07integer\0\0\0\x08\0\0\0\0";
-
-const U_AS_UNSIGNED: &[u8] =
-    b"NDF1\x01\x04\0\x01\x01p\0\0\0\x08\0\x01\x01u\x10unsigned integer\0\0\0\x08\0\0\0\0";
-
-const I_AS_WIDE_ENUMERATION: &[u8] =
-    b"NDF1\x01\x04\0\x01\x01p\0\0\0\x08\0\x01\x01i\x0benumeration\0\0\0\x08\0\0\0\0";
-
-const I_AS_SIGNED_HALF: &[u8] =
-    b"NDF1\x01\x04\0\x01\x01p\0\0\0\x08\0\x01\x01i\x07integer\0\0\0\x02\0\0\0\0";
-
-const I_AS_ENUMERATION: &[u8] =
-    b"NDF1\x01\x04\0\x01\x01p\0\0\0\x08\0\x01\x01i\x0benumeration\0\0\0\x04\0\0\0\0";
-
-const I_AS_UNSIGNED: &[u8] =
-    b"NDF1\x01\x04\0\x01\x01p\0\0\0\x08\0\x01\x01i\x10unsigned integer\0\0\0\x08\0\0\0\0";
-
-const COUNT_ALONE: &[u8] =
-    b"NDF1\0\x08\0\x01\x01p\0\0\0\x08\0\x01\x01n\x07integer\0\0\0\x08\0\0\0\0";
-
-const LIST_WITH_A_NEW_FIELD: &[u8] =
-    b"NDF2\0\x04\0\x02\x01e\0\0\0\x0c\0\x03\x01z\x07integer\0\0\0\x04\0\0\0\0\0\0\0\0\0\0\0\0\0\0\0\0\
-    \0\0\0\x07\x01s\x06string\0\0\0\x04\0\0\0\x04\0\0\0\0\0\0\0\0\0\0\0\0\0\0\0\0\x01k\x07integer\0\
-    \0\0\x01\0\0\0\x08\0\0\0\0\0\0\0\0\0\0\0\0\0\0\0\0\x01r\0\0\0\x08\0\x02\x01p\x04e[n]\0\0\0\x0c\0\
-    \0\0\0\0\0\0\0\0\0\0\0\0\0\0\0\0\0\0\0\x01n\x07integer\0\0\0\x04\0\0\0\x04\0\0\0\0\0\0\0\0\0\0\0\
-    \0\0\0\0\0";
-
-const DEFAULTS_AT_EVERY_DEPTH: &[u8] =
-    b"NDF2\x01\x04\0\x03\x01a\0\0\0\x0c\0\x03\x01k\x07integer\0\0\0\x04\0\0\0\0\xff\xff\xff\xff\xff\
-    \xff\xff\xff\xff\xff\xff\xff\xff\xff\xff\xf7\x01l\x0ainteger[n]\0\0\0\x04\0\0\0\x04\0\0\0\0\0\0\
-    \0\0\0\0\0\0\0\0\0\0\x01n\x07integer\0\0\0\x04\0\0\0\x08\0\0\0\0\0\0\0\0\0\0\0\0\0\0\0\0\x01b\0\
-    \0\0\x1c\0\x03\x01q\x01a\0\0\0\x0c\0\0\0\0\0\0\0\0\0\0\0\0\0\0\0\0\0\0\0\0\x01r\x04a[1]\0\0\0\
-    \x0c\0\0\0\x0c\0\0\0\0\0\0\0\0\0\0\0\0\0\0\0\0\x01t\x06string\0\0\0\x04\0\0\0\x18\0\0\0\0\0\0\0\
-    \0\0\0\0\0\0\0\0\0\x01c\0\0\08\0\x01\x01p\x04b[2]\0\0\0\x1c\0\0\0\0\0\0\0\0\0\0\0\0\0\0\0\0\0\0\
-    \0\0";
-
-const INNER_COUNT: &[u8] =
-    b"NDF2\x01\x04\0\x02\x01a\0\0\0\x0c\0\x03\x01k\x07integer\0\0\0\x04\0\0\0\0\xff\xff\xff\xff\xff\
-    \xff\xff\xff\xff\xff\xff\xff\xff\xff\xff\xf7\x01l\x0ainteger[n]\0\0\0\x04\0\0\0\x04\0\0\0\0\0\0\
-    \0\0\0\0\0\0\0\0\0\0\x01n\x07integer\0\0\0\x04\0\0\0\x08\0\0\0\0\0\0\0\0\0\0\0\0\0\0\0\0\x01c\0\
-    \0\0\x0c\0\x01\x01p\x01a\0\0\0\x0c\0\0\0\0\0\0\0\0\0\0\0\0\0\0\0\0\0\0\0\0";
-
-const STRINGS_AND_A_DEFAULT: &[u8] =
-    b"NDF2\0\x04\0\x01\x01p\0\0\0\x0c\0\x02\x01s\x09string[2]\0\0\0\x04\0\0\0\0\0\0\0\0\0\0\0\0\0\0\0\
-    \0\0\0\0\0\x01d\x10unsigned integer\0\0\0\x04\0\0\0\x08\0\0\0\0\0\0\0\0\0\0\0\0\xff\xff\xff\xff";
-
-const TEXT_BEFORE_COUNT: &[u8] =
-    b"NDF1\0\x04\0\x01\x01p\0\0\0\x0c\0\x02\x01s\x06string\0\0\0\x04\0\0\0\0\x01n\x07integer\0\0\0\x08\
-    \0\0\0\x04";
-
-const RECORD_OF_DEFAULTS: &[u8] =
-    b"NDF2\0\x04\0\x02\x01e\0\0\0\x0c\0\x03\x01s\x06string\0\0\0\x04\0\0\0\0\0\0\0\0\0\0\0\0\0\0\0\0\0\
-    \0\0\0\x01d\x0benumeration\0\0\0\x02\0\0\0\x04\xff\xff\xff\xff\xff\xff\xff\xff\xff\xff\xff\xff\
-    \xff\xff\x80\0\x01u\x09string[1]\0\0\0\x04\0\0\0\x08\0\0\0\0\0\0\0\0\0\0\0\0\0\0\0\0\x01r\0\0\0\
-    \x10\0\x02\x01p\x01e\0\0\0\x0c\0\0\0\0\0\0\0\0\0\0\0\0\0\0\0\0\0\0\0\0\x01n\x07integer\0\0\0\x01\
-    \0\0\0\x0c\0\0\0\0\0\0\0\0\0\0\0\0\0\0\0\0";
-
-const SMALL: &[u8] = b"NDF1\0\x04\0\x01\x01p\0\0\0\x04\0\x01\x01x\x07integer\0\0\0\x04\0\0\0\0";
-
-const WIDE_UNSIGNED: &[u8] =
-    b"NDF1\x01\x08\0\x01\x01p\0\0\0\x08\0\x01\x01x\x10unsigned integer\0\0\0\x08\0\0\0\0";
-
-const WIDE: &[u8] = b"NDF1\0\x08\0\x01\x01p\0\0\0\x08\0\x01\x01x\x07integer\0\0\0\x08\0\0\0\0";
-
-const X_AND_Z: &[u8] =
-    b"NDF1\0\x08\0\x01\x01p\0\0\0\x08\0\x02\x01x\x07integer\0\0\0\x04\0\0\0\0\x01z\x07integer\0\0\0\
-    \x04\0\0\0\x04";
-
-const Y_AND_X: &[u8] =
-    b"NDF1\0\x04\0\x01\x01p\0\0\0\x08\0\x02\x01y\x07integer\0\0\0\x04\0\0\0\0\x01x\x07integer\0\0\0\
-    \x02\0\0\0\x04";
-
-const COUNTED_B: &[u8] =
-    b"NDF1\0\x04\0\x01\x01p\0\0\0\x0c\0\x02\x01n\x07integer\0\0\0\x08\0\0\0\0\x01b\x0ainteger[n]\0\0\0\
-    \x04\0\0\0\x08";
-
-const ARRAY_AND_COUNT: &[u8] =
-    b"NDF1\0\x04\0\x01\x01p\0\0\0\x08\0\x02\x01a\x0ainteger[n]\0\0\0\x04\0\0\0\0\x01n\x07integer\0\0\0\
-    \x04\0\0\0\x04";
-
-const COUNT_AND_ARRAY: &[u8] =
-    b"NDF1\x01\x04\0\x01\x01p\0\0\0\x08\0\x02\x01n\x07integer\0\0\0\x04\0\0\0\0\x01a\x0ainteger[n]\0\0\
-    \0\x08\0\0\0\x04";
-
-const THREE_INSIDE: &[u8] =
-    b"NDF1\0\x04\0\x01\x01p\0\0\0\x0c\0\x01\x01a\x0ainteger[3]\0\0\0\x04\0\0\0\0";
-
-const TWO_RECORDS: &[u8] =
-    b"NDF1\0\x08\0\x02\x01e\0\0\0\x10\0\x02\x01k\x07integer\0\0\0\x08\0\0\0\0\x01s\x06string\0\0\0\x08\
-    \0\0\0\x08\x01r\0\0\0 \0\x01\x01p\x04e[2]\0\0\0\x10\0\0\0\0";
-
-const TWO_NARROW_RECORDS: &[u8] =
-    b"NDF1\0\x04\0\x02\x01e\0\0\0\x08\0\x02\x01k\x07integer\0\0\0\x01\0\0\0\0\x01s\x06string\0\0\0\x04\
-    \0\0\0\x04\x01r\0\0\0\x10\0\x01\x01p\x04e[2]\0\0\0\x08\0\0\0\0";
-
-const STRING_A: &[u8] = b"NDF1\0\x04\0\x01\x01p\0\0\0\x04\0\x01\x01a\x06string\0\0\0\x04\0\0\0\0";
-
-const NUMBER_A: &[u8] = b"NDF1\0\x04\0\x01\x01p\0\0\0\x04\0\x01\x01a\x07integer\0\0\0\x04\0\0\0\0";
-
-const DEFAULTS: &[u8] =
-    b"NDF2\x01\x08\0\x01\x01p\0\0\0\x10\0\x02\x01y\x07integer\0\0\0\x04\0\0\0\0\xff\xff\xff\xff\xff\
-    \xff\xff\xff\xff\xff\xff\xff\xff\xff\xff\xff\x01x\x07integer\0\0\0\x08\0\0\0\x08\0\0\0\0\0\0\0\0\
-    \0\0\0\0\0\0\0\0";
-
-const RECORDS_OF_DEFAULTS: &[u8] =
-    b"NDF2\0\x04\0\x02\x01e\0\0\0\x04\0\x01\x01k\x07integer\0\0\0\x04\0\0\0\0\0\0\0\0\0\0\0\0\0\0\0\0\
-    \0\0\0\x05\x01r\0\0\0\x08\0\x01\x01p\x04e[2]\0\0\0\x04\0\0\0\0\0\0\0\0\0\0\0\0\0\0\0\0\0\0\0\0";
-
 #[test]
-fn records_of_numbers(rt: HostRuntime) -> Result<(), Fail> {
-    let rows: [(&[u8], &[u8], &[(&[u8], i128)], u32, &str); 36] = [
-        (SMALL, WIDE_UNSIGNED, &[(b"x", -1)], 4096, "unfit x"),
+fn records_of_one_number(rt: HostRuntime) -> Result<(), Fail> {
+    let rows: [(&[u8], &[u8], &[u8], i128, u32, &str); 19] = [
+        (SMALL, WIDE_UNSIGNED, b"x", -1, 4096, "unfit x"),
         (
             WIDE_UNSIGNED,
             WIDE,
-            &[(b"x", 9223372036854775807)],
+            b"x",
+            9223372036854775807,
             4096,
             "{x=9223372036854775807}",
         ),
         (
             WIDE_UNSIGNED,
             WIDE,
-            &[(b"x", 9223372036854775808)],
+            b"x",
+            9223372036854775808,
             4096,
             "unfit x",
         ),
-        (X_AND_Z, Y_AND_X, &[(b"x", 7), (b"z", 9)], 4096, "{y=0,x=7}"),
-        (COUNT_ALONE, COUNTED_B, &[(b"n", 3)], 28, "{n=3,b=[0,0,0]}"),
-        (COUNT_ALONE, COUNTED_B, &[(b"n", 3)], 27, "large b"),
-        (COUNT_ALONE, COUNTED_B, &[(b"n", -1)], 4096, "unfit b"),
-        (
-            COUNT_ALONE,
-            COUNTED_B,
-            &[(b"n", 1099511627776)],
-            4096,
-            "large b",
-        ),
-        (SMALL, DEFAULTS, &[(b"x", 7)], 4096, "{y=-1,x=7}"),
+        (SMALL, Y_AND_X, b"x", 7, 4096, "{y=0,x=7}"),
+        (COUNT_ALONE, COUNTED_B, b"n", 3, 28, "{n=3,b=[0,0,0]}"),
+        (COUNT_ALONE, COUNTED_B, b"n", 3, 27, "large b"),
+        (COUNT_ALONE, COUNTED_B, b"n", -1, 4096, "unfit b"),
+        (COUNT_ALONE, COUNTED_B, b"n", 1099511627776, 4096, "large b"),
+        (SMALL, DEFAULTS, b"x", 7, 4096, "{y=-1,x=7}"),
         (
             SMALL,
             RECORDS_OF_DEFAULTS,
-            &[(b"x", 7)],
+            b"x",
+            7,
             4096,
             "{p=[{k=5},{k=5}]}",
         ),
         (
-            EVERY_KIND,
-            B_AS_SIGNED_BYTE,
-            &[
-                (b"b", 1),
-                (b"c", 200),
-                (b"i", -1),
-                (b"u", 9223372036854775808),
-            ],
-            8,
-            "{b=1}",
-        ),
-        (
-            EVERY_KIND,
-            C_AS_SIGNED_BYTE,
-            &[
-                (b"b", 1),
-                (b"c", 200),
-                (b"i", -1),
-                (b"u", 9223372036854775808),
-            ],
-            8,
-            "unfit c",
-        ),
-        (
-            EVERY_KIND,
-            C_AS_ENUMERATION,
-            &[
-                (b"b", 1),
-                (b"c", 200),
-                (b"i", -1),
-                (b"u", 9223372036854775808),
-            ],
-            8,
-            "{c=200}",
-        ),
-        (
-            EVERY_KIND,
-            C_AS_BOOLEAN,
-            &[
-                (b"b", 1),
-                (b"c", 2),
-                (b"i", -1),
-                (b"u", 9223372036854775808),
-            ],
-            8,
-            "unfit c",
-        ),
-        (
-            EVERY_KIND,
-            C_AS_WIDE_BOOLEAN,
-            &[
-                (b"b", 1),
-                (b"c", 1),
-                (b"i", -1),
-                (b"u", 9223372036854775808),
-            ],
-            8,
-            "{c=1}",
-        ),
-        (
-            EVERY_KIND,
-            I_AS_BOOLEAN,
-            &[
-                (b"b", 1),
-                (b"c", 200),
-                (b"i", -1),
-                (b"u", 9223372036854775808),
-            ],
-            8,
-            "unfit i",
-        ),
-        (
-            EVERY_KIND,
-            I_AS_CHAR,
-            &[
-                (b"b", 1),
-                (b"c", 200),
-                (b"i", -1),
-                (b"u", 9223372036854775808),
-            ],
-            8,
-            "unfit i",
-        ),
-        (
-            EVERY_KIND,
-            I_AS_CHAR,
-            &[
-                (b"b", 1),
-                (b"c", 200),
-                (b"i", 255),
-                (b"u", 9223372036854775808),
-            ],
-            8,
-            "{i=255}",
-        ),
-        (
-            EVERY_KIND,
-            I_AS_CHAR,
-            &[
-                (b"b", 1),
-                (b"c", 200),
-                (b"i", 256),
-                (b"u", 9223372036854775808),
-            ],
-            8,
-            "unfit i",
-        ),
-        (
-            EVERY_KIND,
-            U_AS_SIGNED,
-            &[
-                (b"b", 1),
-                (b"c", 200),
-                (b"i", -1),
-                (b"u", 9223372036854775808),
-            ],
-            8,
-            "unfit u",
-        ),
-        (
-            EVERY_KIND,
-            U_AS_SIGNED,
-            &[
-                (b"b", 1),
-                (b"c", 200),
-                (b"i", -1),
-                (b"u", 9223372036854775807),
-            ],
-            8,
-            "{u=9223372036854775807}",
-        ),
-        (
-            EVERY_KIND,
-            U_AS_UNSIGNED,
-            &[
-                (b"b", 1),
-                (b"c", 200),
-                (b"i", -1),
-                (b"u", 18446744073709551615),
-            ],
-            8,
-            "{u=18446744073709551615}",
-        ),
-        (
-            EVERY_KIND,
-            I_AS_WIDE_ENUMERATION,
-            &[
-                (b"b", 1),
-                (b"c", 200),
-                (b"i", -9223372036854775808),
-                (b"u", 9223372036854775808),
-            ],
-            8,
-            "{i=-9223372036854775808}",
-        ),
-        (
-            EVERY_KIND,
-            I_AS_SIGNED_HALF,
-            &[
-                (b"b", 1),
-                (b"c", 200),
-                (b"i", -32769),
-                (b"u", 9223372036854775808),
-            ],
-            8,
-            "unfit i",
-        ),
-        (
-            EVERY_KIND,
-            I_AS_SIGNED_HALF,
-            &[
-                (b"b", 1),
-                (b"c", 200),
-                (b"i", -32768),
-                (b"u", 9223372036854775808),
-            ],
-            8,
-            "{i=-32768}",
-        ),
-        (
-            EVERY_KIND,
-            I_AS_ENUMERATION,
-            &[
-                (b"b", 1),
-                (b"c", 200),
-                (b"i", 2147483648),
-                (b"u", 9223372036854775808),
-            ],
-            8,
-            "unfit i",
-        ),
-        (
-            EVERY_KIND,
-            I_AS_UNSIGNED,
-            &[
-                (b"b", 1),
-                (b"c", 200),
-                (b"i", -1),
-                (b"u", 9223372036854775808),
-            ],
-            8,
-            "unfit i",
-        ),
-        (
             COUNT_ALONE,
             LIST_WITH_A_NEW_FIELD,
-            &[(b"n", 2)],
+            b"n",
+            2,
             32,
             "{p=[{z=7,s=null,k=0},{z=7,s=null,k=0}],n=2}",
         ),
+        (COUNT_ALONE, LIST_WITH_A_NEW_FIELD, b"n", 2, 31, "large p"),
         (
             COUNT_ALONE,
             LIST_WITH_A_NEW_FIELD,
-            &[(b"n", 2)],
-            31,
-            "large p",
-        ),
-        (
-            COUNT_ALONE,
-            LIST_WITH_A_NEW_FIELD,
-            &[(b"n", 2147483647)],
+            b"n",
+            2147483647,
             262144,
             "large p",
         ),
         (
             COUNT_ALONE,
             LIST_WITH_A_NEW_FIELD,
-            &[(b"n", 2147483648)],
+            b"n",
+            2147483648,
             262144,
             "unfit n",
         ),
         (
             COUNT_ALONE,
             DEFAULTS_AT_EVERY_DEPTH,
-            &[(b"n", 5)],
+            b"n",
+            5,
             56,
             "{p=[{q={k=-9,l=[],n=0},r=[{k=-9,l=[],n=0}],t=null},{q={k=-9,l=[],n=0},r=[{k=-9,l=[],n=0}],t=null}]}",
         ),
-        (
-            COUNT_ALONE,
-            INNER_COUNT,
-            &[(b"n", 5)],
-            12,
-            "{p={k=-9,l=[],n=0}}",
-        ),
+        (COUNT_ALONE, INNER_COUNT, b"n", 5, 12, "{p={k=-9,l=[],n=0}}"),
         (
             COUNT_ALONE,
             STRINGS_AND_A_DEFAULT,
-            &[(b"n", 1)],
+            b"n",
+            1,
             12,
             "{s=[null,null],d=4294967295}",
         ),
-        (
-            COUNT_ALONE,
-            TEXT_BEFORE_COUNT,
-            &[(b"n", 1)],
-            12,
-            "{s=null,n=1}",
-        ),
+        (COUNT_ALONE, TEXT_BEFORE_COUNT, b"n", 1, 12, "{s=null,n=1}"),
         (
             COUNT_ALONE,
             RECORD_OF_DEFAULTS,
-            &[(b"n", 127)],
+            b"n",
+            127,
             16,
             "{p={s=null,d=-32768,u=[null]},n=127}",
         ),
     ];
-    for (from, to, fields, limit, wanted) in rows {
-        let value = numbers(rt.alloc(), fields)?;
+    for (from, to, name, number, limit, wanted) in rows {
+        let value = numbers(rt.alloc(), &[(name, number)])?;
         assert_eq!(rt;
             answer(rt.alloc(), from, to, &value, limit)?.as_str(),
+            wanted
+        );
+    }
+    Ok(())
+}
+
+#[test]
+fn numbers_of_every_kind(rt: HostRuntime) -> Result<(), Fail> {
+    let rows: [(&[u8], [i128; 4], &str); 17] = [
+        (B_AS_SIGNED_BYTE, [1, 200, -1, 9223372036854775808], "{b=1}"),
+        (
+            C_AS_SIGNED_BYTE,
+            [1, 200, -1, 9223372036854775808],
+            "unfit c",
+        ),
+        (
+            C_AS_ENUMERATION,
+            [1, 200, -1, 9223372036854775808],
+            "{c=200}",
+        ),
+        (C_AS_BOOLEAN, [1, 2, -1, 9223372036854775808], "unfit c"),
+        (C_AS_WIDE_BOOLEAN, [1, 1, -1, 9223372036854775808], "{c=1}"),
+        (I_AS_BOOLEAN, [1, 200, -1, 9223372036854775808], "unfit i"),
+        (I_AS_CHAR, [1, 200, -1, 9223372036854775808], "unfit i"),
+        (I_AS_CHAR, [1, 200, 255, 9223372036854775808], "{i=255}"),
+        (I_AS_CHAR, [1, 200, 256, 9223372036854775808], "unfit i"),
+        (U_AS_SIGNED, [1, 200, -1, 9223372036854775808], "unfit u"),
+        (
+            U_AS_SIGNED,
+            [1, 200, -1, 9223372036854775807],
+            "{u=9223372036854775807}",
+        ),
+        (
+            U_AS_UNSIGNED,
+            [1, 200, -1, 18446744073709551615],
+            "{u=18446744073709551615}",
+        ),
+        (
+            I_AS_WIDE_ENUMERATION,
+            [1, 200, -9223372036854775808, 9223372036854775808],
+            "{i=-9223372036854775808}",
+        ),
+        (
+            I_AS_SIGNED_HALF,
+            [1, 200, -32769, 9223372036854775808],
+            "unfit i",
+        ),
+        (
+            I_AS_SIGNED_HALF,
+            [1, 200, -32768, 9223372036854775808],
+            "{i=-32768}",
+        ),
+        (
+            I_AS_ENUMERATION,
+            [1, 200, 2147483648, 9223372036854775808],
+            "unfit i",
+        ),
+        (I_AS_UNSIGNED, [1, 200, -1, 9223372036854775808], "unfit i"),
+    ];
+    for (to, [b, c, i, u], wanted) in rows {
+        let value = numbers(rt.alloc(), &[(b"b", b), (b"c", c), (b"i", i), (b"u", u)])?;
+        assert_eq!(rt;
+            answer(rt.alloc(), EVERY_KIND, to, &value, 8)?.as_str(),
             wanted
         );
     }
@@ -517,7 +229,9 @@ fn lists_and_texts(rt: HostRuntime) -> Result<(), Fail> {
     let second = with(numbers(alloc, &[(b"k", 300)])?, b"s", text(alloc, b"a")?)?;
     let records = record(alloc, b"p", pair(alloc, first, second)?)?;
     let absent = record(alloc, b"a", Value::Null)?;
-    let rows: [(&[u8], &[u8], &Value, u32, &str); 6] = [
+    let seven_nine = numbers(alloc, &[(b"x", 7), (b"z", 9)])?;
+    let rows: [(&[u8], &[u8], &Value, u32, &str); 7] = [
+        (X_AND_Z, Y_AND_X, &seven_nine, 4096, "{y=0,x=7}"),
         (
             ARRAY_AND_COUNT,
             COUNT_AND_ARRAY,

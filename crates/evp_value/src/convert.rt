@@ -19,7 +19,8 @@ use std::alloc::Global;
 /// field of the receiver's takes the sender's value of that name, or its default. First comes
 /// `Clash`, then `Large` at `.` where the receiver's length passes the limit; then in each record
 /// the single number fields as listed, and all other fields as listed; in an array its length, its
-/// block and its elements. The value is one of `from`; of any other the answer is what conversion by
+/// block and its elements. The value is one of `from`; of any other the answer is what conversion
+/// by
 /// name finds in it. It is slow: it looks for each name in each record. It calls itself once for
 /// each level of nested types, at most 16.
 pub fn convert_value(
@@ -66,7 +67,8 @@ fn made_value(alloc: Global, format: &Format, value: &Value, limit: u32) -> Resu
 
 // The refusal with the path of its place.
 fn with_path(alloc: Global, format: &Format, refused: Refused) -> SlowFault
-    ensures { (said : Made Datum) → IsRefusal refused said → IsSlowFault result (answer_of format.now said) }
+    ensures { (said : Made Datum) → IsRefusal refused said
+        → IsSlowFault result (answer_of format.now said) }
 {
     match refused {
         Refused::Unfit(place) => match path_of(alloc, format, &place) {

@@ -10,6 +10,8 @@ mod making;
 mod numbers;
 mod partner;
 mod refused;
+#[cfg(test)]
+mod sample_formats;
 mod slow_fault;
 #[cfg(test)]
 mod tests;

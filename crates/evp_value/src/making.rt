@@ -1,16 +1,19 @@
 //! The receiver's value made from the sender's, part by part.
 
-ghost use Rattle.std.specs.Prelude.{◌≡◌, ◌+◌, ◌*◌, ◌^◌, ◌<◌, ◌≤◌, ℕ, length, option_map, pos, Some, false, IsTrue, IfOk, IfErr};
+ghost use Rattle.std.specs.Prelude.{◌≡◌, ◌+◌, ◌*◌, ◌^◌, ◌<◌, ◌≤◌, ℕ, length, option_map, pos, Some};
+ghost use Rattle.std.specs.Prelude.{false, IsTrue, IfOk, IfErr};
 ghost use Rattle.evp_base.specs.Numbers.{is_in_range, is_size_of};
 ghost use Rattle.evp_format.specs.declared.field.Shape.{Shape};
-ghost use Rattle.evp_format.specs.Converting.{has_other_length, make_elements, make_number, make_text, make_tree, make_part, make_single};
+ghost use Rattle.evp_format.specs.Converting.{has_other_length, make_elements, make_number};
+ghost use Rattle.evp_format.specs.Converting.{make_text, make_tree, make_part, make_single};
 ghost use Rattle.evp_format.specs.Datum.{copies, elements_of, list};
 ghost use Rattle.evp_format.specs.Tree.{tree_of, part_in};
 ghost use Rattle.evp_format.specs.ValueView.{datum_of, elements_of_values, entries_of_pairs};
 ghost use Rattle.evp_format.specs.WellLaid.{HasBaseSize, depth, part_depth};
 ghost use Rattle.evp_format.specs.Zero.{zero_part};
 ghost use Rattle.evp_value.specs.declared.refused.Refused.TheVariants.{Memory};
-ghost use Rattle.evp_value.specs.Making.{Gives, IsCounted, make_at, make_array, make_inside, make_field};
+ghost use Rattle.evp_value.specs.Making.{Gives, IsCounted, make_at, make_array, make_inside};
+ghost use Rattle.evp_value.specs.Making.{make_field};
 
 use crate::blocks::{block_end, has_length, list_end};
 use crate::numbers::{number_at, receiver_numbers};
@@ -41,7 +44,8 @@ pub(crate) fn make_record(
     requires type_there { type_number < length to.now.format.now.types }
     requires room { length place.now + 2 * depth (tree_of to.now.format.now type_number) ≤ 32 }
     ensures { Gives datum_of result size.new
-        (make_tree to.now.limit (tree_of to.now.format.now type_number) place.now (entries_of_pairs partner.now) size.old) }
+        (make_tree to.now.limit (tree_of to.now.format.now type_number) place.now
+        (entries_of_pairs partner.now) size.old) }
 {
     let fields = to.format.types()[type_number].fields.as_slice();
     let numbers = receiver_numbers(to.alloc, to.format, fields, partner, place)?;
@@ -66,11 +70,13 @@ fn make_field(
     place: Place,
     size: &mut u32,
 ) -> Result<Value, Refused>
-    requires sized { HasBaseSize to.now.format.now.pointer to.now.format.now.types field.now.base field.now.size }
+    requires sized { HasBaseSize to.now.format.now.pointer to.now.format.now.types field.now.base
+        field.now.size }
     requires some { 0 < field.now.size }
     requires room { length place + 2 * part_depth (part_in to.now.format.now field.now) < 32 }
     ensures { Gives datum_of result size.new
-        (make_field to.now.limit to.now.format.now field.now numbers.now k place (option_map (λ value. datum_of value.now) partner.entry) size.old) }
+        (make_field to.now.limit to.now.format.now field.now numbers.now k place
+        (option_map (λ value. datum_of value.now) partner.entry) size.old) }
 {
     match field.shape {
         Shape::One => make_single(to, field, number_at(numbers, k), partner, place, size),
@@ -92,11 +98,14 @@ fn make_single(
     place: Place,
     size: &mut u32,
 ) -> Result<Value, Refused>
-    requires sized { HasBaseSize to.now.format.now.pointer to.now.format.now.types field.now.base field.now.size }
+    requires sized { HasBaseSize to.now.format.now.pointer to.now.format.now.types field.now.base
+        field.now.size }
     requires room { length place + 2 * part_depth (part_in to.now.format.now field.now) < 32 }
     ensures { Gives datum_of result size.new
-        (make_single to.now.limit (part_in to.now.format.now field.now) place number (option_map (λ value. datum_of value.now) partner.entry)
-        (make_part to.now.limit (part_in to.now.format.now field.now) field.now.size place) size.old) }
+        (make_single to.now.limit (part_in to.now.format.now field.now) place number
+        (option_map (λ value. datum_of value.now) partner.entry)
+        (make_part to.now.limit (part_in to.now.format.now field.now)
+        field.now.size place) size.old) }
 {
     match field.base {
         Base::Number(_) => Ok(Value::Num(number)),
@@ -118,10 +127,12 @@ fn make_fixed(
     size: &mut u32,
 ) -> Result<Value, Refused>
     requires fixed { field.now.shape ≡ Shape.Fixed count }
-    requires sized { HasBaseSize to.now.format.now.pointer to.now.format.now.types field.now.base field.now.size }
+    requires sized { HasBaseSize to.now.format.now.pointer to.now.format.now.types field.now.base
+        field.now.size }
     requires room { length place + 2 * part_depth (part_in to.now.format.now field.now) < 32 }
     ensures { Gives datum_of result size.new
-        (make_array to.now.limit to.now.format.now field.now (pos count) place (option_map (λ value. datum_of value.now) partner.entry) size.old) }
+        (make_array to.now.limit to.now.format.now field.now (pos count) place
+        (option_map (λ value. datum_of value.now) partner.entry) size.old) }
 {
     if !has_length(partner, i128::from(count)) {
         return Err(Refused::Unfit(place));
@@ -140,11 +151,13 @@ fn make_counted(
     size: &mut u32,
 ) -> Result<Value, Refused>
     requires counted { IsCounted field.now.shape }
-    requires sized { HasBaseSize to.now.format.now.pointer to.now.format.now.types field.now.base field.now.size }
+    requires sized { HasBaseSize to.now.format.now.pointer to.now.format.now.types field.now.base
+        field.now.size }
     requires some { 0 < field.now.size }
     requires room { length place + 2 * part_depth (part_in to.now.format.now field.now) < 32 }
     ensures { Gives datum_of result size.new
-        (make_array to.now.limit to.now.format.now field.now wanted place (option_map (λ value. datum_of value.now) partner.entry) size.old) }
+        (make_array to.now.limit to.now.format.now field.now wanted place
+        (option_map (λ value. datum_of value.now) partner.entry) size.old) }
 {
     if !has_length(partner, wanted) {
         return Err(Refused::Unfit(place));
@@ -166,11 +179,14 @@ fn make_inside(
     place: &Place,
     size: &mut u32,
 ) -> Result<Value, Refused>
-    requires counted { has_other_length count (elements_of (option_map (λ value. datum_of value.now) partner)) ≡ false }
-    requires sized { HasBaseSize to.now.format.now.pointer to.now.format.now.types field.now.base field.now.size }
+    requires counted { has_other_length count
+        (elements_of (option_map (λ value. datum_of value.now) partner)) ≡ false }
+    requires sized { HasBaseSize to.now.format.now.pointer to.now.format.now.types field.now.base
+        field.now.size }
     requires room { length place.now + 2 * part_depth (part_in to.now.format.now field.now) < 32 }
     ensures { Gives datum_of result size.new
-        (make_inside to.now.limit to.now.format.now field.now count place.now (option_map (λ value. datum_of value.now) partner.entry) size.old) }
+        (make_inside to.now.limit to.now.format.now field.now count place.now
+        (option_map (λ value. datum_of value.now) partner.entry) size.old) }
 {
     match elements_in(partner) {
         None => Ok(listed(zeros(to, field, count)?)),
@@ -195,10 +211,12 @@ fn make_elements(
     size: &mut u32,
 ) -> Result<Vec<Value>, Refused>
     requires few { length partners.now < 2 ^ 32 }
-    requires sized { HasBaseSize to.now.format.now.pointer to.now.format.now.types field.now.base field.now.size }
+    requires sized { HasBaseSize to.now.format.now.pointer to.now.format.now.types field.now.base
+        field.now.size }
     requires room { length place.now + 2 * part_depth (part_in to.now.format.now field.now) < 32 }
     ensures { Gives (λ values. elements_of_values values.items) result size.new
-        (make_elements (make_at to.now.limit to.now.format.now field.now place.now) (elements_of_values partners.now) 0 size.old) }
+        (make_elements (make_at to.now.limit to.now.format.now field.now place.now)
+        (elements_of_values partners.now) 0 size.old) }
 {
     let mut values = Vec::with_capacity(to.alloc, partners.len())?;
     for (k, partner) in partners.iter().enumerate() {
@@ -217,10 +235,12 @@ fn make_element(
     place: Place,
     size: &mut u32,
 ) -> Result<Value, Refused>
-    requires sized { HasBaseSize to.now.format.now.pointer to.now.format.now.types field.now.base field.now.size }
+    requires sized { HasBaseSize to.now.format.now.pointer to.now.format.now.types field.now.base
+        field.now.size }
     requires room { length place + 2 * part_depth (part_in to.now.format.now field.now) ≤ 32 }
     ensures { Gives datum_of result size.new
-        (make_part to.now.limit (part_in to.now.format.now field.now) field.now.size place (datum_of partner.now) size.old) }
+        (make_part to.now.limit (part_in to.now.format.now field.now) field.now.size place
+        (datum_of partner.now) size.old) }
 {
     match field.base {
         Base::Number(kind) => make_number(kind, field.size, number_in(partner), place),
@@ -258,7 +278,8 @@ fn make_text(
     size: &mut u32,
 ) -> Result<Value, Refused>
     ensures { Gives datum_of result size.new
-        (make_text to.now.limit place (option_map (λ value. datum_of value.now) partner.entry) size.old) }
+        (make_text to.now.limit place
+        (option_map (λ value. datum_of value.now) partner.entry) size.old) }
 {
     let Some(bytes) = text_in(partner) else {
         return Ok(Value::Null);
@@ -272,7 +293,8 @@ fn make_text(
 
 // As many zeros of an element of that field.
 fn zeros(to: &Receiver, field: &Field, count: u32) -> Result<Vec<Value>, Refused>
-    requires { HasBaseSize to.now.format.now.pointer to.now.format.now.types field.now.base field.now.size }
+    requires { HasBaseSize to.now.format.now.pointer to.now.format.now.types field.now.base
+        field.now.size }
     ensures value { IfOk result (λ values. elements_of_values values.items
         ≡ copies count (zero_part (part_in to.now.format.now field.now))) }
     ensures refused { IfErr result (λ refused. refused ≡ Memory) }

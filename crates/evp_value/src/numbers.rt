@@ -2,7 +2,8 @@
 
 ghost use Rattle.std.specs.Prelude.{◌≡◌, ◌<◌, ◌≤◌, ℕ, List, Some, length, slice_get};
 ghost use Rattle.evp_format.specs.declared.field.Field.{Field};
-ghost use Rattle.evp_format.specs.Converting.{number_at, number_fits, numbers_from, receiver_number};
+ghost use Rattle.evp_format.specs.Converting.{number_at, number_fits, numbers_from};
+ghost use Rattle.evp_format.specs.Converting.{receiver_number};
 ghost use Rattle.evp_format.specs.Tree.{Tree, branches_of, part_of, trees};
 ghost use Rattle.evp_format.specs.ValueView.{entries_of_pairs};
 ghost use Rattle.evp_format.specs.WellLaid.{HasBaseSize};
@@ -27,7 +28,8 @@ pub(crate) fn receiver_numbers(
         HasBaseSize format.now.pointer format.now.types field.base field.size }
     requires room { length place.now < 32 }
     ensures { Gives (λ numbers. numbers.items) result 0
-        (numbers_from place.now 0 (branches_of (trees format.now.types) fields.now) (entries_of_pairs partner.now)) }
+        (numbers_from place.now 0 (branches_of (trees format.now.types) fields.now)
+        (entries_of_pairs partner.now)) }
 {
     let mut numbers = Vec::with_capacity(alloc, fields.len())?;
     for (k, field) in fields.iter().enumerate() {
@@ -43,7 +45,8 @@ pub(crate) fn receiver_numbers(
 // The number of a single number field: the partner's of its name, or its default; 0 for another.
 fn receiver_number(field: &Field, partner: &[(Name, Value)]) -> i128
     ensures { (earlier : List Tree) → result
-        ≡ receiver_number field.now field.now.shape (part_of earlier field.now.base) (entries_of_pairs partner.now) }
+        ≡ receiver_number field.now field.now.shape (part_of earlier field.now.base)
+        (entries_of_pairs partner.now) }
 {
     match (field.shape, field.base) {
         (Shape::One, Base::Number(_)) => {

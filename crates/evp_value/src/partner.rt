@@ -12,7 +12,8 @@ use evp_format::Value;
 
 // The value of this name: the first, where there is one.
 pub(crate) fn value_named(pairs: &[(Name, Value)], name: Name) -> Option<&Value>
-    ensures { option_map (λ value. datum_of value.now) result ≡ named name (entries_of_pairs pairs.now) }
+    ensures { option_map (λ value. datum_of value.now) result
+        ≡ named name (entries_of_pairs pairs.now) }
 {
     for pair in pairs {
         if name == pair.0 {
@@ -24,7 +25,8 @@ pub(crate) fn value_named(pairs: &[(Name, Value)], name: Name) -> Option<&Value>
 
 // The partner's number, or the stated default.
 pub(crate) fn number_or_default(partner: Option<&Value>, fallback: i128) -> i128
-    ensures { result ≡ number_or_default (option_map (λ value. datum_of value.now) partner.entry) fallback }
+    ensures { result ≡ number_or_default (option_map (λ value. datum_of value.now) partner.entry)
+        fallback }
 {
     match partner {
         Some(Value::Num(number)) => *number,
@@ -67,7 +69,8 @@ pub(crate) fn elements_in(partner: Option<&Value>) -> Option<&[Value]>
 
 // The partner's fields; none where it is no record.
 pub(crate) fn entries_in(partner: Option<&Value>) -> &[(Name, Value)]
-    ensures { entries_of_pairs result.now ≡ entries_of (option_map (λ value. datum_of value.now) partner.entry) }
+    ensures { entries_of_pairs result.now ≡
+        entries_of (option_map (λ value. datum_of value.now) partner.entry) }
 {
     match partner {
         Some(Value::Rec(members)) => members.pairs.as_slice(),

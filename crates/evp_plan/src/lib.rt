@@ -14,3 +14,6 @@ pub use building::build;
 pub use builds::Builds;
 pub use plan::Plan;
 pub use step::{Elements, Op, Origin, Part, Run, Source, Step, Steps, Task};
+
+#[cfg(test)]
+mod tests;

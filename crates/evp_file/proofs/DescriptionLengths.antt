@@ -121,7 +121,7 @@ short_field stated types fields field types_short fields_short is =
     let l3 = length-number 4 field.offset in
     let l4 = length-default stated field in
     let whole = five (described_text field.name) (described_text text) (described_number 4 field.size) (described_number 4 field.offset)
-        (described_default stated field) in
+    (described_default stated field) in
     let base = short_base types field.base types_short in
     let shape = short_shape fields field.shape fields_short is.shape in
     let both = length-append (base_word types field.base) (shape_text fields field.shape) in
@@ -161,7 +161,7 @@ short_type stated types type types_short is =
     let l2 = length-number 2 (length type.fields) in
     let l3 = short_fields stated types type.fields type.fields types_short (names_short type.fields type.fields is.fields) is.fields in
     let whole = four (described_text type.name) (described_number 4 type.length) (described_number 2 (length type.fields))
-        (described_fields stated types type.fields type.fields) in
+    (described_fields stated types type.fields type.fields) in
     omega (arith, name, few, l0, l1, l2, l3, whole)
 
 short_types : (stated : Bool) (all types : List RecordType) → AreShortTypes all → Each IsShortType types
@@ -196,13 +196,13 @@ short_description layout laid =
     let types = layout.types in
     let stated = states_default layout in
     let are = each_by_number IsShortType types (λ k type there. laid_type layout.pointer (take k types) type
-        (laid.each_type k type there)) in
+    (laid.each_type k type there)) in
     let few = laid.types_allowed.1 in
     let l0 = length-number 1 (order_number layout.order) in
     let l1 = length-number 1 layout.pointer in
     let l2 = length-number 2 (length types) in
     let l3 = short_types stated types types (type_names_short types are) are in
     let whole = five (magic stated) (described_number 1 (order_number layout.order)) (described_number 1 layout.pointer)
-        (described_number 2 (length types)) (described_types stated types types) in
+    (described_number 2 (length types)) (described_types stated types types) in
     let four_bytes = length-magic stated in
     omega (arith, few, l0, l1, l2, l3, whole, four_bytes)

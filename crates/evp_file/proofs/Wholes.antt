@@ -74,7 +74,7 @@ kept_with known limit file (Record item) small admissible kept =
     let short = is.short in
     let long = length-append file.items (item ∷ []) in
     let here : IsRecordOf known file.formats item = record
-        { layout = is.layout; there = is.there; short = omega (arith, short, small); viewed = is.viewed } in
+    { layout = is.layout; there = is.there; short = omega (arith, short, small); viewed = is.viewed } in
     record {
       whole = record {
         few_formats = kept.whole.few_formats;
@@ -93,8 +93,13 @@ kept_behind known limit file (frame ∷ frames) whole small lead kept = kept_beh
 
 nothing_kept : (known : List KnownFormat) (limit : ℕ) → IsKept known limit no_frames
 nothing_kept known limit = record {
-  whole = record { few_formats = omega arith; few_items = omega arith; each_format = All-nil (IsFormatOf known); each_item = All-nil
-      (IsRecordOf known []) };
+  whole = record {
+    few_formats = omega arith;
+    few_items = omega arith;
+    each_format = All-nil (IsFormatOf known);
+    each_item = All-nil
+        (IsRecordOf known []);
+  };
   within = All-nil (IsWithin limit);
 }
 
@@ -107,7 +112,7 @@ kept_file known limit bytes file small are e =
 pub whole_read : (known : List KnownFormat) (limit : ℕ) (bytes : List ℕ) (result : Result RecordFile FileFault) → limit < 2 ^ 32
     → AreBytes bytes
     → Gives (λ (file : RecordFile). file) result (file_of known limit bytes) → IfOk result (λ file. IsWhole known file)
-        × IfOk result (λ file. All (IsWithin limit) file.items)
+    × IfOk result (λ file. All (IsWithin limit) file.items)
 whole_read known limit bytes (Ok file) small are said =
     let kept = kept_file known limit bytes file small are said in (kept.whole, kept.within)
 whole_read known limit bytes (Err fault) small are said = (tt, tt)

@@ -6,7 +6,9 @@ use std::test::Fail;
 // Little endian, pointers of 4 bytes, `p` of 4 bytes with one field at 0: `x integer`, `a string`,
 // `a integer`.
 const SMALL: &[u8] = b"NDF1\0\x04\0\x01\x01p\0\0\0\x04\0\x01\x01x\x07integer\0\0\0\x04\0\0\0\0";
+
 const TEXT: &[u8] = b"NDF1\0\x04\0\x01\x01p\0\0\0\x04\0\x01\x01a\x06string\0\0\0\x04\0\0\0\0";
+
 const NUMBER: &[u8] = b"NDF1\0\x04\0\x01\x01p\0\0\0\x04\0\x01\x01a\x07integer\0\0\0\x04\0\0\0\0";
 
 // Big endian, pointers of 8 bytes, `q` of 16 bytes with `y integer` of 4 bytes, whose default is -1,
@@ -52,7 +54,10 @@ fn plans(rt: HostRuntime) -> Result<(), Fail> {
     assert_eq!(rt; table.len(), 2);
     let steps = table[1].as_slice();
     assert_eq!(rt; steps.len(), 2);
-    assert!(rt; matches!(&steps[0].task.op, Op::Number(_, Origin::Stated(-1))), "default");
+    assert!(rt;
+        matches!(&steps[0].task.op, Op::Number(_, Origin::Stated(-1))),
+        "default"
+    );
     match &steps[1].task.op {
         Op::Number(_, Origin::Standing(source)) => {
             assert!(rt; source.offset == 0 && source.size == 4, "source");

@@ -62,8 +62,7 @@ impl<'a> Walk<'a> {
         ensures value { (field : Field) →
             field_at self.now.format.now spot.type_number index ≡ Some field →
             result ≡ marked
-           
-                (walk_field self.now.format.now self.now.bytes.now spot field
+            (walk_field self.now.format.now self.now.bytes.now spot field
             (place.now ++ PlaceStep.At index ∷ []) mark) }
         ensures mark_in { IfOk result (λ end. end ≤ length self.now.bytes.now) }
     {
@@ -140,8 +139,7 @@ impl<'a> Walk<'a> {
             < 32 }
         requires mark_in { mark ≤ length self.now.bytes.now }
         ensures value { result ≡ marked
-           
-                (walk_elements self.now.format.now self.now.bytes.now field.now
+            (walk_elements self.now.format.now self.now.bytes.now field.now
             from place.now count 0 mark) }
         ensures mark_in { IfOk result (λ end. end ≤ length self.now.bytes.now) }
     {
@@ -175,8 +173,7 @@ impl<'a> Walk<'a> {
             < 32 }
         requires mark_in { mark ≤ length self.now.bytes.now }
         ensures value { result ≡ marked
-           
-                (walk_part self.now.format.now self.now.bytes.now field.now
+            (walk_part self.now.format.now self.now.bytes.now field.now
             at (place.now ++ step ∷ []) mark) }
         ensures mark_in { IfOk result (λ end. end ≤ length self.now.bytes.now) }
     {

@@ -4,11 +4,6 @@ use crate::{ExprFault, Node, parse};
 use std::alloc::{AllocError, Global};
 use std::str;
 
-/// A word as text.
-fn shown(word: &Name) -> &str {
-    str::from_utf8(word.as_bytes()).unwrap_or("?")
-}
-
 /// A node with its place.
 fn shown_node(alloc: Global, node: &Node) -> Result<String, AllocError> {
     match node {

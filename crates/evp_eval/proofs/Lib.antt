@@ -1,0 +1,12 @@
+mod Agreements
+mod Bytes
+mod Compiling
+mod Elements
+mod Examples
+mod Extends
+mod Fields
+mod Led
+mod Moves
+mod Records
+mod Runs
+mod Streams

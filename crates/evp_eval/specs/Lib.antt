@@ -1,0 +1,6 @@
+pub mod Binding
+pub mod Bound
+pub mod FaultText
+pub mod Meaning
+pub mod Running
+pub mod Value

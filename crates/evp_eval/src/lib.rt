@@ -1,0 +1,17 @@
+//! Expressions over records: what an expression means in a format, and its value over a record.
+#![tactic(auto)]
+
+mod arithmetic;
+mod binder;
+mod bound;
+mod fault;
+mod instruction;
+mod machine;
+mod reach;
+mod stack;
+
+pub use bound::{Bound, bind, eval};
+pub use fault::{BindFault, EvalFault};
+
+#[cfg(test)]
+mod tests;

@@ -13,7 +13,7 @@ use Rattle.evp_format.specs.declared.place.PlaceStep.{PlaceStep}
 use Rattle.evp_format.specs.declared.place.PlaceStep.TheVariants.{Nth}
 use Rattle.evp_format.specs.Bytes.{bytes_equal}
 use Rattle.evp_format.specs.Clashing.{is_array, same_shape, same_part, branch_named, clash_partners, clash_branches, clash_parts}
-use Rattle.evp_format.specs.Datum.{Datum, list, Elements, empty_list, element, Entries, count_of, named}
+use Rattle.evp_format.specs.Datum.{Datum, list, Elements, empty_list, element, Entries, empty_record, count_of, named}
 use Rattle.evp_format.specs.Converting.{entries_of}
 use Rattle.evp_format.specs.LaidTree.{Matches, IsLaidRecord, IsLaidTree, AreLaidBranches, IsLaidPart}
 use Rattle.evp_format.specs.Tree.{Tree, tree, Branches, no_fields, branch, Part, number_part, text_part, tree_part, branch_at, fields_of}
@@ -22,7 +22,7 @@ use Rattle.evp_format.specs.WellLaid.{extent, shape_extent, HasShape}
 use Rattle.evp_format.specs.Zero.{as_count}
 use Rattle.evp_plan.specs.declared.step.Run.{Run}
 use Rattle.evp_plan.specs.Matching.{Content, numbers, texts, records, content_of, known_branches, known_named, number_origin, single_origin, wanted_origin, run_by, run_for, part_for, offset_of, or_zero, op_for, inside_partner, compiled_tree, compiled, compiled_part}
-use Rattle.evp_plan.specs.Ready.{IsOriginThere, IsTextAt, IsTextBy, IsTextThere, IsPartThere, IsStartThere, IsRunThere, AreElementsThere, IsOpThere, IsReady}
+use Rattle.evp_plan.specs.Ready.{IsOriginThere, IsTextAt, IsTextBy, IsTextThere, IsPartThere, IsStartThere, IsRunThere, IsDefaultThere, AreElementsThere, IsOpThere, IsReady}
 use Rattle.evp_plan.specs.Standing.{origin_number, run_start, run_count, element_place}
 use Rattle.evp_plan.proofs.Conversions.{branches_in, AreAlike, alike_branches, alike_with, alike_at, IsAlike, clash_of_trees, RecordGiven, record_given}
 use Rattle.evp_plan.proofs.Defaults.{no_clash_with_nothing}
@@ -271,7 +271,7 @@ array_held image from at number field (Counted c) part value there is inside hel
 run_there : (image : Image) (at : ℕ) (sender : Field) (part part' : Part) (size : ℕ) (run : Option Run) (elements : Elements) → ArraySent image at part sender.size run elements → IsArrayHeld image at sender.size run
     → IsLaidPart image.pointer sender.size part → same_part part part' ≡ true → clash_parts part part' ≡ None → InsideReady image part'
     → AreElementsThere image at (part_for size (content_of part') (Some (sender, content_of part))) (λ s. IsReady image (compiled_part (inside_partner (Some (sender, part))) part') s) run
-run_there image at sender part part' size None elements sent held laid same alike inside = tt
+run_there image at sender part part' size None elements sent held laid same alike inside = absurd sent
 run_there image at sender part part' size (Some run) elements sent held laid same alike inside =
     record {
       counted = held.counted;
@@ -284,10 +284,17 @@ run_there image at sender part part' size (Some run) elements sent held laid sam
           part_there image sender part part' size (element_place image at run k) nth.value (subst P here nth.sent) (held.ends k below) laid same alike inside);
     }
 
+-- an element without a partner
+default_there : (image : Image) (size : ℕ) (part : Part) → InsideReady image part → IsDefaultThere (part_for size (content_of part) None) (λ s. IsReady image (compiled_part no_fields part) s)
+default_there image size (number_part kind) ready = tt
+default_there image size text_part ready = tt
+default_there image size (tree_part nested) ready =
+    ready no_fields 0 empty_record (nothing_sent image 0) (nothing_inside image 0 (omega arith)) (no_clash_with_nothing (branches_in nested))
+
 elements_there : (image : Image) (from : Branches) (at : ℕ) (field : Field) (shape : Shape) (part : Part) (found : Option (Field × Part)) (value : Option Datum) → field.shape ≡ shape → is_array shape ≡ true
     → IsPartner image from at found value → clash_partners found field part (λ sender_part. clash_parts sender_part part) ≡ None → IsInside image from at → IsNamed image from at found → InsideReady image part
     → AreElementsThere image at (part_for field.size (content_of part) (known_of found)) (λ s. IsReady image (compiled_part (inside_partner found) part) s) (run_for (known_branches from) (known_of found))
-elements_there image from at field shape part None None is arrayed given alike inside held ready = tt
+elements_there image from at field shape part None None is arrayed given alike inside held ready = default_there image field.size part ready
 elements_there image from at field shape part None (Some value) is arrayed given alike inside held ready = absurd given
 elements_there image from at field shape part (Some (sender, part')) None is arrayed given alike inside held ready = absurd given
 elements_there image from at field shape part (Some (sender, part')) (Some value) is arrayed given alike inside held ready =

@@ -48,8 +48,14 @@ pub record IsRunThere (image : Image) (at : ℕ) (part : Part) (Inside : ℕ →
   pub within : (k : ℕ) → k < run_count image at run → element_place image at run k ≤ length image.bytes
   pub each : (k : ℕ) → k < run_count image at run → IsPartThere image part Inside (element_place image at run k)
 
+-- an element without a partner reads nothing; a record's steps begin at 0
+abbrev pub IsDefaultThere : Part → (ℕ → Type 0) → Type 0
+IsDefaultThere (part.Number kind from width) Inside = ⊤
+IsDefaultThere part.Text Inside = ⊤
+IsDefaultThere part.Record Inside = Inside 0
+
 abbrev pub AreElementsThere : Image → ℕ → Part → (ℕ → Type 0) → Option Run → Type 0
-AreElementsThere image at part Inside None = ⊤
+AreElementsThere image at part Inside None = IsDefaultThere part Inside
 AreElementsThere image at part Inside (Some run) = IsRunThere image at part Inside run
 
 abbrev pub IsOpThere : Image → ℕ → Op → (ℕ → Type 0) → Type 0

@@ -1,0 +1,5 @@
+mod Measured
+mod Moved
+mod Residues
+mod Runs
+mod Texts

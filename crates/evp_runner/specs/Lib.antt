@@ -1,0 +1,4 @@
+pub mod Outcome
+pub mod Pieces
+pub mod Running
+pub mod StepIn

@@ -1,0 +1,95 @@
+//! Running plans.
+
+ghost use Rattle.std.specs.Prelude.{◌≡◌, ◌*◌, ◌^◌, ◌<◌, ◌≤◌, IsTrue, length, replicate, IfOk, IfErr};
+ghost use Rattle.evp_base.specs.Numbers.{is_width};
+ghost use Rattle.evp_format.specs.Converting.{convert};
+ghost use Rattle.evp_format.specs.Layout.{Layout};
+ghost use Rattle.evp_format.specs.Viewing.{image_of};
+ghost use Rattle.evp_plan.specs.Planned.{IsPlanFrom, StandsFor, measured_whole};
+ghost use Rattle.evp_record.specs.Record.{value_of};
+ghost use Rattle.evp_runner.specs.Outcome.{outcome};
+ghost use Rattle.evp_runner.specs.Running.{IsSizeOf, AreConverted};
+ghost use Rattle.evp_runner.specs.StepIn.{image_in};
+
+use crate::ConvertFault;
+use crate::measuring::{Measure, measure_record};
+use crate::moving::{Move, move_record};
+use crate::sender::Sender;
+use evp_format::Place;
+use evp_plan::Plan;
+use evp_record::Checked;
+
+/// The packed size of a record in the receiver's format, in bytes, or the first fault with its
+/// place there: `Unfit` and `Large` exactly as the conversion has them. The plan is one for records
+/// of this format. Takes no memory. It calls itself once for each level of nested types, at most 16.
+pub fn measure(plan: &Plan, item: Checked, limit: u32) -> Result<u32, ConvertFault>
+    requires { IsPlanFrom plan.now item.layout }
+    ensures value { (to : Layout) → StandsFor plan.now item.entry.layout to → result ≡ outcome (convert to (value_of item.entry) limit) }
+    ensures size { IfOk result (λ size. IsSizeOf plan.now item.entry size) }
+{
+    let _held = item.bytes();
+    let size = measure_whole(plan, &item, limit)?;
+    Ok(size as u32)
+}
+
+// The packed size, or the first fault.
+fn measure_whole(plan: &Plan, item: &Checked, limit: u32) -> Result<usize, ConvertFault>
+    requires { IsPlanFrom plan.now item.now.layout }
+    ensures value { result ≡ outcome (measured_whole plan.now (image_of item.now.layout item.now.bytes) limit) }
+    ensures bound { IfOk result (λ size. size < 2 ^ 32) }
+{
+    let fixed = plan.fixed();
+    if fixed > limit {
+        return Err(ConvertFault::Large(Place::root()));
+    }
+    let _held = item.bytes();
+    let sender = sender_of(item);
+    let measure = Measure {
+        plan,
+        sender,
+        limit,
+    };
+    let lists = plan.table();
+    let count = lists.len();
+    let place = Place::root();
+    measure_record(&measure, count - 1, 0, &place, fixed as usize)
+}
+
+// The record's bytes, and how its machine stores numbers.
+fn sender_of<'a>(item: &Checked<'a>) -> Sender<'a>
+    ensures { image_in result ≡ image_of item.now.layout item.now.bytes }
+{
+    let format = item.format();
+    let _types = format.types();
+    Sender {
+        bytes: item.bytes(),
+        order: format.order(),
+        pointer: format.pointer(),
+    }
+}
+
+/// Writes the packed record of the receiver's format over all of `out`, whatever stood there: the
+/// conversion, packed. `measure` answered the length of `out` for some limit. Takes no memory.
+pub fn run_into(plan: &Plan, item: Checked, out: &mut [u8])
+    requires plan_from { IsPlanFrom plan.now item.layout }
+    requires size { IsSizeOf plan.now item (length out.old) }
+    ensures { AreConverted plan.now item.entry out.new }
+{
+    clear(out);
+    let _held = item.bytes();
+    let sender = sender_of(&item);
+    let work = Move { plan, sender };
+    let lists = plan.table();
+    let count = lists.len();
+    let fixed = plan.fixed() as usize;
+    let _end = move_record(&work, count - 1, 0, out, 0, fixed);
+}
+
+// Zeros all of it.
+fn clear(out: &mut [u8])
+    ensures { out.new ≡ replicate (length out.old) 0 }
+{
+    for byte in out.iter_mut() {
+        *byte = 0;
+    }
+}

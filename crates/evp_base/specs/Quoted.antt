@@ -1,5 +1,6 @@
--- A text as lines show it: in double quotes, with bytes 0x20 to 0x7e as themselves but the quote and
--- the backslash behind a backslash, and every other byte as `\x` and two lower case hexadecimal digits.
+-- A text as lines show it: in double quotes, with bytes 0x20 to 0x7e as themselves but the quote
+-- and the backslash behind a backslash, and every other byte as `\x` and two lower case
+-- hexadecimal digits.
 use Rattle.std.specs.Prelude.{ℕ, Bool, false, ◌/◌, ◌%◌, ◌&&◌, nat_le, nat_eq, ◌≤◌, if◌then◌else◌}
 use Rattle.std.specs.Prelude.{List, [], ◌∷◌, ◌++◌, take, codes}
 use Rattle.std.specs.List.{flat_map}

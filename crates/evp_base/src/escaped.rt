@@ -8,7 +8,8 @@ ghost use Rattle.evp_base.specs.Quoted.{is_printable, escaped};
 use std::marker::Model;
 
 /// A byte as it stands between double quotes, 1 to 4 bytes of ASCII: from 0x20 to 0x7e as itself,
-/// but `"` as `\"` and `\` as `\\`; every other byte as `\x` and two lower case hexadecimal digits.
+/// but `"` as `\"` and `\` as `\\`; every other byte as `\x` and two lower case hexadecimal
+/// digits.
 #[derive(Debug, Drop)]
 pub struct Escaped {
     bytes: [u8; 4],

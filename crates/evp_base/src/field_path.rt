@@ -58,8 +58,8 @@ impl FieldPath {
         self.steps
     }
 
-    /// Adds a step at the end. `Memory` where the longer path found none; the path then stays as it
-    /// was.
+    /// Adds a step at the end. `Memory` where the longer path found none; the path then stays as
+    /// it was.
     pub fn push(&mut self, step: Step) -> Result<(), Memory>
         ensures ok { OnOk result (self.new ≡ self.old ++ step ∷ []) }
         ensures err { OnErr result (self.new ≡ self.old) }

@@ -1,9 +1,11 @@
 //! Laws of numbers and their bytes, which hold for all values. The functions do nothing.
 
-ghost use Rattle.evp_base.specs.Laws.{DigitsReadBack, NumberDigitsBack, NumbersAreInRange, DigitsAreBytes, LowFirstTwice, WordsAreMagnitudes, WordsAreDigits};
+ghost use Rattle.evp_base.specs.Laws.{DigitsReadBack, NumberDigitsBack, NumbersAreInRange};
+ghost use Rattle.evp_base.specs.Laws.{DigitsAreBytes, LowFirstTwice, WordsAreMagnitudes};
+ghost use Rattle.evp_base.specs.Laws.{WordsAreDigits};
 
-/// Reading the bytes of a number in the range of its kind and size gives the number back, in either
-/// order.
+/// Reading the bytes of a number in the range of its kind and size gives the number back, in
+/// either order.
 pub fn digits_read_back()
     ensures { DigitsReadBack }
 {}

@@ -3,7 +3,8 @@
 ghost use Rattle.std.specs.Prelude.{◌≡◌, ◌≤◌, ◌↔◌, refl, length, Some, IsTrue, SomeIff, nat_eq};
 ghost use Rattle.std.specs.List.{list_all};
 ghost use Rattle.std.specs.Ordering.{nat_cmp};
-ghost use Rattle.std.specs.Cmp.Lexicographic.{pointwise, slice_cmp, nat_list_eq_equiv, nat_list_cmp_total, texts_ties, texts_po};
+ghost use Rattle.std.specs.Cmp.Lexicographic.{pointwise, slice_cmp, nat_list_eq_equiv};
+ghost use Rattle.std.specs.Cmp.Lexicographic.{nat_list_cmp_total, texts_ties, texts_po};
 ghost use Rattle.std.specs.Cmp.{partial_equiv_from_equiv};
 ghost use Rattle.evp_base.specs.Name.{is_name, begins_name, continues_name, padded};
 
@@ -14,8 +15,8 @@ use std::marker::Model;
 /// The most bytes of a name.
 const LONGEST: usize = 64;
 
-/// A name: 1 to 64 bytes, a letter or `_`, then letters, digits or `_`, all ASCII. Names compare as
-/// their bytes do.
+/// A name: 1 to 64 bytes, a letter or `_`, then letters, digits or `_`, all ASCII. Names compare
+/// as their bytes do.
 #[derive(Clone, Copy, Debug)]
 pub struct Name {
     // the name, then zeros

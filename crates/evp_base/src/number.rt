@@ -1,15 +1,17 @@
 //! Numbers in the bytes of a record.
 
 ghost use Rattle.std.specs.Prelude.{◌≡◌, ◌<◌, ◌≤◌, ◌+◌, ◌-◌, ◌*◌, ◌^◌, ◌↔◌, ℕ, pos, length, IsTrue};
-ghost use Rattle.evp_base.specs.Numbers.{number, magnitude, digits, residue, twos_complement, is_width, is_size_of, is_word_length, InRange, FitsBytes, least, greatest};
+ghost use Rattle.evp_base.specs.Numbers.{number, magnitude, digits, residue, twos_complement};
+ghost use Rattle.evp_base.specs.Numbers.{is_width, is_size_of, is_word_length, InRange, FitsBytes};
+ghost use Rattle.evp_base.specs.Numbers.{least, greatest};
 
 use crate::{Kind, Order};
 use byteorder::{BigEndian, ByteOrder, LittleEndian};
 
 /// The number that these bytes are: their sum by their weights, less 2^(8 size) where the kind is
 /// signed and the top bit is set (two's complement, C99, section 6.2.6.2). A boolean is 0 where all
-/// its bytes are 0, else 1. The size is one that the kind may have, and the slice's length. Takes no
-/// memory.
+/// its bytes are 0, else 1. The size is one that the kind may have, and the slice's length. Takes
+/// no memory.
 pub fn get_number(bytes: &[u8], order: Order, kind: Kind, size: u32) -> i128
     requires allowed { IsTrue (is_size_of kind size) }
     requires whole { length bytes.now ≡ size }
@@ -25,8 +27,8 @@ pub fn get_number(bytes: &[u8], order: Order, kind: Kind, size: u32) -> i128
 }
 
 /// Writes the bytes of `n` modulo 2^(8 size), so a negative one in two's complement (C99, section
-/// 6.2.6.2). The size is 1, 2, 4 or 8 and the slice's length, and
-/// `n` is from the least signed number of that size to the greatest unsigned one. Takes no memory.
+/// 6.2.6.2). The size is 1, 2, 4 or 8 and the slice's length, and `n` is from the least signed
+/// number of that size to the greatest unsigned one. Takes no memory.
 pub fn put_number(out: &mut [u8], order: Order, size: u32, n: i128)
     requires allowed { IsTrue (is_width size) }
     requires whole { length out.old ≡ size }
@@ -45,8 +47,8 @@ pub fn put_number(out: &mut [u8], order: Order, size: u32, n: i128)
 }
 
 /// Whether `n` is a number of that kind and size: two's complement for an int and an enumeration,
-/// from 0 for an unsigned number, 0 to 255 for a char and 0 or 1 for a boolean. The size is one that
-/// the kind may have. Takes no memory.
+/// from 0 for an unsigned number, 0 to 255 for a char and 0 or 1 for a boolean. The size is one
+/// that the kind may have. Takes no memory.
 pub fn fits(kind: Kind, size: u32, n: i128) -> bool
     requires { IsTrue (is_size_of kind size) }
     ensures { IsTrue result ↔ InRange kind size n }

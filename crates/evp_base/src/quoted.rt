@@ -8,8 +8,8 @@ ghost use Rattle.evp_base.specs.Quoted.{escaped, quoted};
 use crate::Escaped;
 use std::fmt;
 
-/// Bytes that are written as a text in double quotes, each as `Escaped` shows it: `Quoted(b"a\"\n")`
-/// is `"a\"\x0a"`. It takes no memory.
+/// Bytes that are written as a text in double quotes, each as `Escaped` shows it:
+/// `Quoted(b"a\"\n")` is `"a\"\x0a"`. It takes no memory.
 #[derive(Clone, Copy, Debug)]
 pub struct Quoted<'a>(pub &'a [u8]);
 

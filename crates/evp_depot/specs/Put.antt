@@ -14,8 +14,8 @@ abbrev pub AppendsPart : Option (List ℕ) → Option (List ℕ) → List ℕ �
 AppendsPart old new bytes = (n : ℕ) × (n < length bytes) × Appends old new (take n bytes)
 
 -- What a call that puts these bytes does to a sink. Its faults never fall, and rose where the call
--- failed. Where the sink tells what it has taken, that grew by all bytes, or by a part of them where
--- the call failed.
+-- failed. Where the sink tells what it has taken, that grew by all bytes, or by a part of them
+-- where the call failed.
 pub record Puts {S T E : Type 0} (faults_of : S → ℕ) (told : S → Option (List ℕ))
     (old new : S) (bytes : List ℕ) (result : Result T E) : Type 0 where
   pub faults : faults_of old ≤ faults_of new
@@ -65,7 +65,8 @@ Puts-after faults_of told old mid new bytes more (Err e) later first second = re
 -- a call that failed put a part of its bytes, and so of them and what would have followed
 pub Puts-before : {S T E U F : Type 0} (faults_of : S → ℕ) (told : S → Option (List ℕ))
     (old new : S) (bytes more : List ℕ) (answer : Result T E) (result : Result U F)
-    → IsErr answer → IsErr result → Puts faults_of told old new bytes answer → Puts faults_of told old new (bytes ++ more) result
+    → IsErr answer → IsErr result → Puts faults_of told old new bytes answer
+    → Puts faults_of told old new (bytes ++ more) result
 Puts-before faults_of told old new bytes more (Err fault) (Err failed) _ _ first = record {
   faults = first.faults;
   failed = first.failed;

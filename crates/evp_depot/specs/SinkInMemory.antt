@@ -35,8 +35,8 @@ sink_code =
 
 -- a write of these bytes fails: it is made to, or no room is left for any of them
 abbrev pub Refuses : SinkInMemory → List ℕ → Type 0
-Refuses sink bytes = IsMadeToFail sink.failing sink.calls ⊎
-    ((0 < length bytes) × (length sink.put ≡ sink.room))
+Refuses sink bytes =
+    IsMadeToFail sink.failing sink.calls ⊎ ((0 < length bytes) × (length sink.put ≡ sink.room))
 
 -- how many of these bytes a write takes
 abbrev pub taken_of : SinkInMemory → List ℕ → ℕ

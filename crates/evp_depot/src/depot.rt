@@ -1,5 +1,6 @@
 //! A source of bytes under names.
-ghost use Rattle.std.specs.Prelude.{◌≡◌, ℕ, ◌+◌, ◌-◌, ◌<◌, ◌≤◌, ◌↔◌, Some, Option, ◌++◌, length, take, drop, IfOk, IsErrOf, IsNone, IfSome};
+ghost use Rattle.std.specs.Prelude.{◌≡◌, ℕ, ◌+◌, ◌-◌, ◌<◌, ◌≤◌, ◌↔◌, Some, Option, ◌++◌, length};
+ghost use Rattle.std.specs.Prelude.{take, drop, IfOk, IsErrOf, IsNone, IfSome};
 ghost use Rattle.std.specs.FinMap.{get};
 ghost use Rattle.evp_depot.specs.Files.{Files, OnHeld};
 ghost use Rattle.evp_depot.specs.Reads.{Reads};
@@ -42,8 +43,8 @@ pub trait Depot {
     ghost faults: { Self → ℕ };
 
     /// Reads bytes under the name, from place `at` on, into the front of the piece, and answers how
-    /// many. None into a piece that isn't empty is the end. `Absent` where nothing is there under the
-    /// name, `Failed` where something else went wrong; each is counted.
+    /// many. None into a piece that isn't empty is the end. `Absent` where nothing is there under
+    /// the name, `Failed` where something else went wrong; each is counted.
     fn read(&mut self, name: &str, at: u64, into: &mut [u8]) -> Result<usize, DepotFault>
         ensures reads { Reads held misses faults self.old self.new
             (IsErrOf result DepotFault.Absent) (IsErrOf result DepotFault.Failed) }

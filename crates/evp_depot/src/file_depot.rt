@@ -6,8 +6,8 @@ use std::fs;
 use std::io::{ErrorKind, Read, Seek, SeekFrom};
 use std::rt::Files;
 
-/// Files of the system under their paths. A path that leads to no file is absent; whatever else goes
-/// wrong in opening, seeking or reading is a failure. It doesn't tell what it holds.
+/// Files of the system under their paths. A path that leads to no file is absent; whatever else
+/// goes wrong in opening, seeking or reading is a failure. It doesn't tell what it holds.
 #[derive(Drop)]
 pub struct FileDepot<'a, R: Files> {
     rt: &'a R,

@@ -1,5 +1,6 @@
 //! A depot whose files lie in memory, for tests and for callers that have the bytes.
-ghost use Rattle.std.specs.Prelude.{◌≡◌, ℕ, ◌+◌, ◌-◌, ◌↔◌, ◌++◌, length, take, drop, min, Some, IfOk, IsErrOf, IsNone, IsSome, IfSome, OnErr};
+ghost use Rattle.std.specs.Prelude.{◌≡◌, ℕ, ◌+◌, ◌-◌, ◌↔◌, ◌++◌, length, take, drop, min, Some};
+ghost use Rattle.std.specs.Prelude.{IfOk, IsErrOf, IsNone, IsSome, IfSome, OnErr};
 ghost use Rattle.std.specs.FinMap.{get};
 ghost use Rattle.std.specs.Option.{option_copied};
 ghost use Rattle.evp_depot.specs.Files.{files_of};
@@ -9,9 +10,9 @@ use crate::depot::{Depot, DepotFault};
 use std::collections::BTreeMap;
 use std::marker::Model;
 
-/// Files in memory. The calls whose numbers, counted from 0, are in `failing` fail, but for those of
-/// a name that isn't there. `calls` is the next call's number; at its last value it stays, and no
-/// call fails by its number there.
+/// Files in memory. The calls whose numbers, counted from 0, are in `failing` fail, but for those
+/// of a name that isn't there. `calls` is the next call's number; at its last value it stays, and
+/// no call fails by its number there.
 #[derive(Drop)]
 pub struct MemoryDepot {
     pub files: BTreeMap<String, Vec<u8>>,
@@ -69,8 +70,8 @@ impl Depot for MemoryDepot {
     /// Reads as many bytes as there are from `at` on, up to the piece's length.
     fn read(&mut self, name: &str, at: u64, into: &mut [u8]) -> Result<usize, DepotFault>
         ensures absent { IsErrOf result DepotFault.Absent ↔ IsNone (get self.old.files name.now) }
-        ensures failed { IsErrOf result DepotFault.Failed
-            ↔ (IsSome (get self.old.files name.now) × IsMadeToFail self.old.failing self.old.calls) }
+        ensures failed { IsErrOf result DepotFault.Failed ↔ (IsSome (get self.old.files name.now)
+            × IsMadeToFail self.old.failing self.old.calls) }
         ensures taken { IfSome (get self.old.files name.now) (λ file. IfOk result (λ n.
             n ≡ min (length into.old) (length file - at))) }
         ensures bytes { IfSome (get self.old.files name.now) (λ file. IfOk result (λ n.

@@ -1,5 +1,6 @@
 //! A sink that keeps what it takes in memory.
-ghost use Rattle.std.specs.Prelude.{◌≡◌, ℕ, ◌<◌, ◌≤◌, ◌↔◌, [], length, Some, IfOk, IsOk, IsErr, vec_capacity};
+ghost use Rattle.std.specs.Prelude.{◌≡◌, ℕ, ◌<◌, ◌≤◌, ◌↔◌, [], length, Some, IfOk, IsOk, IsErr};
+ghost use Rattle.std.specs.Prelude.{vec_capacity};
 ghost use Rattle.evp_depot.specs.SinkInMemory.{Refuses, taken_of, after_write, SinkInMemory};
 
 use crate::sink::{Sink, SinkFault};
@@ -37,12 +38,13 @@ impl Model for MemorySink {
       faults = s.faults;
     } };
 
-    ghost invariant = { λ s. (length s.put.items ≤ s.room) × (s.room ≤ vec_capacity s.put) × (0 < s.take) };
+    ghost invariant = { λ s. (length s.put.items ≤ s.room) × (s.room ≤ vec_capacity s.put)
+        × (0 < s.take) };
 }
 
 impl MemorySink {
-    /// An empty sink. It takes the memory for `room` bytes, and answers `Memory` where there is none;
-    /// no later write takes any.
+    /// An empty sink. It takes the memory for `room` bytes, and answers `Memory` where there is
+    /// none; no later write takes any.
     pub fn new(alloc: Global, room: u32, take: u32, failing: Vec<u32>) -> Result<MemorySink, Memory>
         requires { 0 < take }
         ensures { IfOk result (λ sink. sink ≡ record {

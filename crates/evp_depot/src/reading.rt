@@ -1,5 +1,7 @@
 //! Reading all that lies under a name.
-ghost use Rattle.std.specs.Prelude.{◌≡◌, ℕ, ◌+◌, ◌^◌, ◌<◌, ◌≤◌, ◌↔◌, length, Some, IfOk, IfSome, IsErrOf, IsNone, IsSome, IsSomeAnd, OnSome, OnOk, take, vec_len};
+ghost use Rattle.std.specs.Prelude.{◌≡◌, ℕ, ◌+◌, ◌^◌, ◌<◌, ◌≤◌, ◌↔◌, length, Some, IfOk, IfSome};
+ghost use Rattle.std.specs.Prelude.{IsErrOf, IsNone, IsSome, IsSomeAnd, OnSome, OnOk, take};
+ghost use Rattle.std.specs.Prelude.{vec_len};
 ghost use Rattle.std.specs.FinMap.{get};
 ghost use Rattle.evp_depot.specs.Files.{OnHeld};
 ghost use Rattle.evp_depot.specs.Fronts.{IsFront};
@@ -67,8 +69,8 @@ impl From<DepotFault> for Fetch {
     }
 }
 
-/// All bytes under the name, at most `max`. They are read in large pieces: of 65,536 bytes first, and
-/// then as much again as there is.
+/// All bytes under the name, at most `max`. They are read in large pieces: of 65,536 bytes first,
+/// and then as much again as there is.
 ///
 /// `Absent` where a read answered it, `Failed` where one did, and `TooLong` exactly where `max` + 1
 /// bytes were taken. `Memory` where the next piece found none. What was read is dropped then.
@@ -109,8 +111,8 @@ pub fn read_all<D: Depot>(
     Err(Fetch::TooLong)
 }
 
-// Where the buffer is full it is made longer: to the first piece, then to twice its length, but never
-// past the limit.
+// Where the buffer is full it is made longer: to the first piece, then to twice its length, but
+// never past the limit.
 fn make_room(buffer: &mut Vec<u8>, filled: usize, limit: usize) -> Result<(), AllocError>
     requires filled { filled ≤ vec_len buffer.old }
     requires room { vec_len buffer.old ≤ limit }

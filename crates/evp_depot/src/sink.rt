@@ -1,5 +1,6 @@
 //! Where output goes.
-ghost use Rattle.std.specs.Prelude.{ℕ, ◌<◌, ◌≤◌, List, Option, Some, codes, length, take, IfOk, OnErr};
+ghost use Rattle.std.specs.Prelude.{ℕ, ◌<◌, ◌≤◌, List, Option, Some, codes, length, take, IfOk};
+ghost use Rattle.std.specs.Prelude.{OnErr};
 ghost use Rattle.std.specs.Io.KnownBytes.{Appends, Keeps};
 ghost use Rattle.evp_depot.specs.Counts.{Rose};
 
@@ -39,6 +40,7 @@ pub trait Sink {
 
         ensures in_piece { IfOk result (λ n. n ≤ length bytes.now) }
         ensures some { IfOk result (λ n. 0 < length bytes.now → 0 < n) }
-        ensures appended { IfOk result (λ n. Appends (put self.old) (put self.new) (take n bytes.now)) }
+        ensures appended { IfOk result (λ n.
+            Appends (put self.old) (put self.new) (take n bytes.now)) }
         ensures nothing { OnErr result (Keeps (put self.old) (put self.new)) };
 }

@@ -1,5 +1,6 @@
 -- The list of all routes has each of them once, in their order.
-use Rattle.std.proofs.Common.{◌≡◌, ◌≢◌, ℕ, zero, suc, ◌+◌, ◌<◌, ◌≤◌, Some, List, [], ◌∷◌, ◌++◌, length, map, get_or, refl, sym, ap, subst, inl, inr, arith}
+use Rattle.std.proofs.Common.{◌≡◌, ◌≢◌, ℕ, zero, suc, ◌+◌, ◌<◌, ◌≤◌, Some, List, [], ◌∷◌, ◌++◌, length, map, get_or, refl, sym, ap, subst}
+use Rattle.std.proofs.Common.{inl, inr, arith}
 use Rattle.std.specs.List.{AllByRecursion, Contains, flat_map, enumerate_from, slice_get}
 use Rattle.std.proofs.lemmas.List.{append-nil}
 use Rattle.std.proofs.lemmas.List.Elements.{All-from_recursion, All-contains}
@@ -7,7 +8,8 @@ use Rattle.evp_graph.specs.Shape.{Shape, targets_of, IsSound}
 use Rattle.evp_graph.specs.Ways.{Way, step_to, ways}
 use Rattle.evp_graph.specs.Routes.{Steps, Visits, IsRoute, Precedes, ComesBefore, Extends, ListsRoutes, route_along, routes_of}
 use Rattle.evp_graph.specs.declared.route.Route.{Route}
-use Rattle.evp_graph.proofs.Lists.{Ordered, Ordered-append, Ordered-map, Ordered-weaker, AllPairs-from_recursion, Each-weaker, Each-map, Each-always, Each-flat_map, Stands, Contains-flat_map}
+use Rattle.evp_graph.proofs.Lists.{Ordered, Ordered-append, Ordered-map, Ordered-weaker, AllPairs-from_recursion, Each-weaker, Each-map}
+use Rattle.evp_graph.proofs.Lists.{Each-always, Each-flat_map, Stands, Contains-flat_map}
 use Rattle.evp_graph.proofs.Paths.{length-steps, Contains-from_get}
 
 -- each way on from a stone is one of its steps

@@ -25,13 +25,13 @@ extension route position stone =
 
 -- the extensions of a route by the positions of a row
 abbrev pub extensions : Route → List ℕ → List Ahead
-extensions route row = map (λ e. record { route = extension route e.0 e.1; stone = e.1 })
-    (enumerate_from 0 row)
+extensions route row =
+    map (λ e. record { route = extension route e.0 e.1; stone = e.1 }) (enumerate_from 0 row)
 
 -- the route of a source and its stone alone
 abbrev pub first_route : ℕ → ℕ → Route
 first_route source stone = record { source = source; positions = []; stones = stone ∷ [] }
 
 abbrev pub starts : List ℕ → List Ahead
-starts sources = map (λ e. record { route = first_route e.0 e.1; stone = e.1 })
-    (enumerate_from 0 sources)
+starts sources =
+    map (λ e. record { route = first_route e.0 e.1; stone = e.1 }) (enumerate_from 0 sources)

@@ -1,5 +1,6 @@
 -- Routes: what one is, in which order they stand, and the list of all.
-use Rattle.std.specs.Prelude.{ℕ, ◌≡◌, ◌≢◌, ◌<◌, ◌⊎◌, ◌↔◌, Some, List, [], ◌∷◌, ◌++◌, length, map, flat_map, AllPairs, Contains, slice_get}
+use Rattle.std.specs.Prelude.{ℕ, ◌≡◌, ◌≢◌, ◌<◌, ◌⊎◌, ◌↔◌, Some, List, [], ◌∷◌, ◌++◌, length, map}
+use Rattle.std.specs.Prelude.{flat_map, AllPairs, Contains, slice_get}
 use Rattle.std.specs.List.{enumerate_from}
 use Rattle.evp_graph.specs.Shape.{Shape, targets_of}
 use Rattle.evp_graph.specs.Ways.{Way, ways}

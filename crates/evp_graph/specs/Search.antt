@@ -1,5 +1,6 @@
 -- The search for a cycle: a mark on each stone, and the visits that are open.
-use Rattle.std.specs.Prelude.{ℕ, ◌≡◌, ◌≢◌, ◌<◌, ◌≤◌, ◌⊎◌, List, ◌∷◌, ◌++◌, length, map, reverse, drop, take, slice_index, slice_index_or}
+use Rattle.std.specs.Prelude.{ℕ, ◌≡◌, ◌≢◌, ◌<◌, ◌≤◌, ◌⊎◌, List, ◌∷◌, ◌++◌, length, map, reverse}
+use Rattle.std.specs.Prelude.{drop, take, slice_index, slice_index_or}
 use Rattle.evp_graph.specs.Shape.{Reaches}
 use Rattle.evp_graph.specs.declared.search.Mark.{Mark}
 use Rattle.evp_graph.specs.declared.search.Mark.TheVariants.{New, Open, Done}

@@ -1,5 +1,6 @@
 -- A graph's sources and stones, and the paths along targets.
-use Rattle.std.specs.Prelude.{ℕ, ◌<◌, ◌≤◌, ◌≢◌, List, [], ◌∷◌, length, All, AllPairs, Contains, slice_index_or}
+use Rattle.std.specs.Prelude.{ℕ, ◌<◌, ◌≤◌, ◌≢◌, List, [], ◌∷◌, length, All, AllPairs, Contains}
+use Rattle.std.specs.Prelude.{slice_index_or}
 
 -- what a graph is: the stone of each source, and the targets of each stone by position
 pub record Shape : Type 0 where

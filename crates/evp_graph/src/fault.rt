@@ -45,7 +45,8 @@ impl fmt::Display for GraphFault {
 
 // Writes the stones, a blank before each.
 fn write_stones<W: fmt::Write>(f: &mut fmt::Formatter<W>, stones: &[u16]) -> fmt::Result
-    ensures { WritesOnOk W.write_str_gives f.old result (flat_map blank_and_stone stones.now) f.new }
+    ensures { WritesOnOk W.write_str_gives f.old result
+        (flat_map blank_and_stone stones.now) f.new }
 {
     for stone in stones {
         write!(f, " {stone}")?;

@@ -2,7 +2,8 @@
 
 ghost use Rattle.std.specs.Prelude.{◌≡◌, ◌<◌, ◌≤◌, ◌++◌, length, reverse, IfOk, OnOk};
 ghost use Rattle.evp_graph.specs.Routes.{routes_of, ListsRoutes};
-ghost use Rattle.evp_graph.specs.Ahead.{starts, extensions, first_route as first_route_of, extension as extension_of};
+ghost use Rattle.evp_graph.specs.Ahead.{starts, extensions, first_route as first_route_of};
+ghost use Rattle.evp_graph.specs.Ahead.{extension as extension_of};
 
 use crate::fault::RouteFault;
 use crate::graph::Graph;

@@ -61,7 +61,8 @@ fn search_from(
     requires within { start < length targets.now }
     requires fresh { mark_of marks.old.items start ≡ Mark.New }
     ensures settled { IfOk result (λ cycle. IfNone cycle (IsSettled targets.now marks.new.items)) }
-    ensures start { IfOk result (λ cycle. IfNone cycle (mark_of marks.new.items start ≡ Mark.Done)) }
+    ensures start { IfOk result (λ cycle.
+        IfNone cycle (mark_of marks.new.items start ≡ Mark.Done)) }
     ensures kept { IfOk result (λ cycle. IfNone cycle (StayDone marks.old.items marks.new.items)) }
     ensures cycle { IfOk result (λ cycle. IfSome cycle (IsCycle targets.now)) }
 {

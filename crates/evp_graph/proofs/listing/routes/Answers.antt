@@ -5,7 +5,8 @@ use Rattle.evp_graph.specs.Routes.{routes_of, ListsRoutes}
 use Rattle.evp_graph.specs.Ahead.{starts, extensions}
 use Rattle.evp_graph.specs.declared.route.Route.{Route}
 use Rattle.evp_graph.specs.declared.listing.Ahead.{Ahead}
-use Rattle.evp_graph.proofs.Onward.{Listing, Listing-first, Listing-popped, Listing-pushed, Listing-end, length-Listing, length-starts, length-extensions, routes-known}
+use Rattle.evp_graph.proofs.Onward.{Listing, Listing-first, Listing-popped, Listing-pushed, Listing-end, length-Listing, length-starts}
+use Rattle.evp_graph.proofs.Onward.{length-extensions, routes-known}
 use Rattle.evp_graph.proofs.Listed.{ListsRoutes-routes_of}
 use Rattle.evp_graph.proofs.listing.routes.Goals as goal
 

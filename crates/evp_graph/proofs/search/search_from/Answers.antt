@@ -4,7 +4,9 @@ use Rattle.evp_graph.specs.Search.{stones_back}
 use Rattle.evp_graph.specs.declared.search.Mark.TheVariants.{New, Open, Done}
 use Rattle.evp_graph.specs.declared.search.Visit.{Visit}
 use Rattle.evp_graph.proofs.Cycles.{closed_from_turned, IsCycle-from_rotated}
-use Rattle.evp_graph.proofs.Visits.{Searching, Searching-first, Searching-passed_at, Searching-entered, Searching-left, IsSettled-searched, row_read, looks_at, work, work-entered, begun_marked, done_opened, done_left, Contains-from_on, stone_of, open≢new, done≢new}
+use Rattle.evp_graph.proofs.Visits.{Searching, Searching-first, Searching-passed_at, Searching-entered, Searching-left, IsSettled-searched}
+use Rattle.evp_graph.proofs.Visits.{row_read, looks_at, work, work-entered, begun_marked, done_opened, done_left, Contains-from_on}
+use Rattle.evp_graph.proofs.Visits.{stone_of, open≢new, done≢new}
 use Rattle.evp_graph.proofs.search.search_from.Goals as goal
 
 pub loop-here-init : goal.loop-here-init

@@ -5,7 +5,8 @@ use Rattle.evp_base.specs.declared.order.Order.TheVariants.{Little, Big}
 use Rattle.evp_format.specs.Conversion.{conversion, converted, unfit_at, large_at}
 use Rattle.evp_format.specs.Datum.{null}
 use Rattle.evp_format.specs.Layout.{Layout, layout_with}
-use Rattle.evp_format.proofs.Worked.{integer, unsigned, enumeration, string, nested, array, counted, stated, type_of, name, number, absent, listed, inside, record_of}
+use Rattle.evp_format.proofs.Worked.{integer, unsigned, enumeration, string, nested, array, counted, stated, type_of, name, number, absent}
+use Rattle.evp_format.proofs.Worked.{listed, inside, record_of}
 
 abbrev count_alone : Layout
 count_alone =

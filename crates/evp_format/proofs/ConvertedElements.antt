@@ -5,7 +5,8 @@ use Rattle.evp_base.specs.declared.order.Order.TheVariants.{Little, Big}
 use Rattle.evp_format.specs.Conversion.{conversion, converted, unfit_at, large_at}
 use Rattle.evp_format.specs.Datum.{num, null, text}
 use Rattle.evp_format.specs.Layout.{Layout, layout_with}
-use Rattle.evp_format.proofs.Worked.{integer, string, nested, array, counted, stated, type_of, name, index, number, absent, written, listed, record_of}
+use Rattle.evp_format.proofs.Worked.{integer, string, nested, array, counted, stated, type_of, name, index, number, absent, written, listed}
+use Rattle.evp_format.proofs.Worked.{record_of}
 
 abbrev three_strings : Layout
 three_strings =

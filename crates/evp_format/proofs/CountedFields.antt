@@ -27,7 +27,8 @@ pub field_goes_on : (type : ℕ) (all : List DraftField) (k : ℕ) (draft : Draf
     (counted_fields type (k + 1) all (drop (k + 1) all)) ≡ total
 unfolding counted_fields
 field_goes_on type all k draft shape front total below is shaped so_far =
-    let step : counted_fields type k all (draft ∷ drop (k + 1) all) ≡ (counted_fields type (k + 1) all (drop (k + 1) all) >>= λ rest. Ok (field_with draft shape ∷ rest)) = rw (← shaped) refl in
+    let step : counted_fields type k all (draft ∷ drop (k + 1) all)
+    ≡ (counted_fields type (k + 1) all (drop (k + 1) all) >>= λ rest. Ok (field_with draft shape ∷ rest)) = rw (← shaped) refl in
     sym (regroup front (field_with draft shape) (counted_fields type (k + 1) all (drop (k + 1) all))) ∙ ap (behind front) (sym step)
     ∙ ap (behind front) (sym (next_left (counted_fields type k all) all k draft below is)) ∙ so_far
 

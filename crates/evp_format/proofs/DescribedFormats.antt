@@ -32,7 +32,7 @@ use Rattle.evp_format.specs.Reading.{magic_at, order_at, pointer_at, type_count_
 use Rattle.evp_format.specs.Steps.{◌>>=◌}
 use Rattle.evp_format.specs.WellLaid.{all_fields}
 use Rattle.evp_format.proofs.DescribedFields.{drafts_described, ArePlain, fields_stand, type_name_read, length_read, count_read}
-use Rattle.evp_format.proofs.FormatsAgain.{HasPlain, HavePlain}
+use Rattle.evp_format.proofs.TypesAgain.{HasPlain, HavePlain}
 use Rattle.evp_format.proofs.Places.{Stands, stands_nothing, stands_join, stands_cut, number_stands, text_stands}
 use Rattle.evp_format.proofs.Pushed.{bytes_equal-true, slice_get-some}
 use Rattle.evp_format.proofs.StatedFields.{slice_get-seam, stated_shape, stated_of, stated_all, field_name-get, fields_described, AreKnown}

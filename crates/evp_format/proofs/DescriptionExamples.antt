@@ -154,6 +154,8 @@ texts =
     ++ 59 ∷ layout_fault_text (fault.Limit which.AllFields 4097) ++ 59 ∷ layout_fault_text (fault.CountDefault 0 12) ++ 59
     ∷ layout_fault_text (fault.TypeTwice 63) ++ 59 ∷ layout_fault_text fault.Pointer
 
-texts_are : texts ≡ codes "short at 30;bad name, type 1;bad name, type 1 field 2;overlap, type 1 fields 2 and 3;limit all fields: 4097;count default, type 0 field 12;type twice, type 63;pointer size"
+texts_are : texts
+    ≡ codes "short at 30;bad name, type 1;bad name, type 1 field 2;overlap, type 1 fields 2 and 3;limit all fields: 4097"
+    ++ codes ";count default, type 0 field 12;type twice, type 63;pointer size"
 unfolding texts digits
 texts_are = refl

@@ -97,16 +97,19 @@ seven_widens = refl
 minus_one_is_not_unsigned : conversion small unsigned_wide 4096 (255 ∷ 255 ∷ 255 ∷ 255 ∷ []) ≡ Some (unfit (At 0 ∷ []))
 minus_one_is_not_unsigned = refl
 
-greatest_signed_fits : conversion unsigned_wide (layout_of Little 8 8 (int_field x_name 8 0 ∷ [])) 4096 (127 ∷ 255 ∷ 255 ∷ 255 ∷ 255 ∷ 255 ∷ 255 ∷ 255 ∷ [])
+greatest_signed_fits : conversion unsigned_wide (layout_of Little 8 8 (int_field x_name 8 0 ∷ [])) 4096
+    (127 ∷ 255 ∷ 255 ∷ 255 ∷ 255 ∷ 255 ∷ 255 ∷ 255 ∷ [])
     ≡ Some (made (one_entry x_name (num (pos 9223372036854775807))) 8)
 greatest_signed_fits = refl
 
-next_number_does_not_fit : conversion unsigned_wide (layout_of Little 8 8 (int_field x_name 8 0 ∷ [])) 4096 (128 ∷ 0 ∷ 0 ∷ 0 ∷ 0 ∷ 0 ∷ 0 ∷ 0 ∷ [])
+next_number_does_not_fit : conversion unsigned_wide (layout_of Little 8 8 (int_field x_name 8 0 ∷ [])) 4096
+    (128 ∷ 0 ∷ 0 ∷ 0 ∷ 0 ∷ 0 ∷ 0 ∷ 0 ∷ [])
     ≡ Some (unfit (At 0 ∷ []))
 next_number_does_not_fit = refl
 
 -- fields are matched by name, and one without a partner is 0
-names_match : conversion (layout_of Little 8 8 (int_field x_name 4 0 ∷ int_field z_name 4 4 ∷ [])) (layout_of Little 4 8 (int_field y_name 4 0 ∷ int_field x_name 2 4 ∷ [])) 4096
+names_match : conversion (layout_of Little 8 8 (int_field x_name 4 0 ∷ int_field z_name 4 4 ∷ []))
+    (layout_of Little 4 8 (int_field y_name 4 0 ∷ int_field x_name 2 4 ∷ [])) 4096
     (7 ∷ 0 ∷ 0 ∷ 0 ∷ 9 ∷ 0 ∷ 0 ∷ 0 ∷ []) ≡ Some (made (two_entries y_name (num (pos 0)) x_name (num (pos 7))) 8)
 names_match = refl
 
@@ -140,7 +143,8 @@ counted_wide_is_packed : pack counted_wide (two_entries n_name (num (pos 2)) a_n
     ≡ 0 ∷ 0 ∷ 0 ∷ 2 ∷ 0 ∷ 0 ∷ 0 ∷ 8 ∷ 0 ∷ 0 ∷ 0 ∷ 0 ∷ 0 ∷ 0 ∷ 0 ∷ 5 ∷ 0 ∷ 0 ∷ 0 ∷ 0 ∷ 0 ∷ 0 ∷ 0 ∷ 6 ∷ []
 counted_wide_is_packed = refl
 
-another_length_does_not_fit : conversion counted (layout_of Little 4 12 (field_of a_name (Number Int) (Fixed 3) 4 0 ∷ [])) 4096 five_and_six ≡ Some (unfit (At 0 ∷ []))
+another_length_does_not_fit : conversion counted (layout_of Little 4 12 (field_of a_name (Number Int) (Fixed 3) 4 0 ∷ [])) 4096 five_and_six
+    ≡ Some (unfit (At 0 ∷ []))
 another_length_does_not_fit = refl
 
 -- a list without a partner is as long as the receiver's count says
@@ -160,7 +164,8 @@ zeros_are_counted = refl
 zeros_pass_the_limit : conversion count_alone count_and_list 27 (3 ∷ 0 ∷ 0 ∷ 0 ∷ 0 ∷ 0 ∷ 0 ∷ 0 ∷ []) ≡ Some (large (At 1 ∷ []))
 zeros_pass_the_limit = refl
 
-negative_count_does_not_fit : conversion count_alone count_and_list 4096 (255 ∷ 255 ∷ 255 ∷ 255 ∷ 255 ∷ 255 ∷ 255 ∷ 255 ∷ []) ≡ Some (unfit (At 1 ∷ []))
+negative_count_does_not_fit : conversion count_alone count_and_list 4096 (255 ∷ 255 ∷ 255 ∷ 255 ∷ 255 ∷ 255 ∷ 255 ∷ 255 ∷ [])
+    ≡ Some (unfit (At 1 ∷ []))
 negative_count_does_not_fit = refl
 
 great_count_is_large : conversion count_alone count_and_list 4096 (0 ∷ 0 ∷ 0 ∷ 0 ∷ 0 ∷ 1 ∷ 0 ∷ 0 ∷ []) ≡ Some (large (At 1 ∷ []))
@@ -176,14 +181,25 @@ string_32 = layout_of Little 4 4 (field_of s_name Text One 4 0 ∷ [])
 null_stays_null : conversion string_64 string_32 4096 (0 ∷ 0 ∷ 0 ∷ 0 ∷ 0 ∷ 0 ∷ 0 ∷ 0 ∷ []) ≡ Some (made (one_entry s_name null) 4)
 null_stays_null = refl
 
-empty_stays_empty : conversion string_64 string_32 4096 (8 ∷ 0 ∷ 0 ∷ 0 ∷ 0 ∷ 0 ∷ 0 ∷ 0 ∷ 0 ∷ []) ≡ Some (made (one_entry s_name (text [])) 9)
+empty_stays_empty : conversion string_64 string_32 4096 (8 ∷ 0 ∷ 0 ∷ 0 ∷ 0 ∷ 0 ∷ 0 ∷ 0 ∷ 0 ∷ [])
+    ≡ Some (made (one_entry s_name (text [])) 9)
 empty_stays_empty = refl
 
-text_is_kept : conversion string_64 string_32 4096 (8 ∷ 0 ∷ 0 ∷ 0 ∷ 0 ∷ 0 ∷ 0 ∷ 0 ∷ 97 ∷ 98 ∷ 0 ∷ []) ≡ Some (made (one_entry s_name (text (97 ∷ 98 ∷ []))) 11)
+text_is_kept : conversion string_64 string_32 4096 (8 ∷ 0 ∷ 0 ∷ 0 ∷ 0 ∷ 0 ∷ 0 ∷ 0 ∷ 97 ∷ 98 ∷ 0 ∷ [])
+    ≡ Some (made (one_entry s_name (text (97 ∷ 98 ∷ []))) 11)
 text_is_kept = refl
 
 zero_of_a_string : zero_of string_32 ≡ one_entry s_name null
 zero_of_a_string = refl
+
+-- an array inside the record has all its elements, a counted one as many as its count's default says
+zero_of_arrays : zero_of (layout_of Little 4 16
+    (field_of a_name (Number Int) (Fixed 3) 2 0 ∷ field_of b_name (Number Int) (Counted 2) 4 8
+    ∷ record (int_field n_name 4 12) { fallback = pos 2 } ∷ []))
+    ≡ rec (entry a_name (list (element (num (pos 0)) (element (num (pos 0)) (element (num (pos 0)) empty_list))))
+    (entry b_name (list (element (num (pos 0)) (element (num (pos 0)) empty_list)))
+    (entry n_name (num (pos 2)) empty_record)))
+zero_of_arrays = refl
 
 -- an array of records: the second element's number is too great
 abbrev records_from : Layout
@@ -205,7 +221,8 @@ records_to = record {
 }
 
 second_record_does_not_fit : conversion records_from records_to 4096
-    (5 ∷ 0 ∷ 0 ∷ 0 ∷ 0 ∷ 0 ∷ 0 ∷ 0 ∷ 0 ∷ 0 ∷ 0 ∷ 0 ∷ 0 ∷ 0 ∷ 0 ∷ 0 ∷ 44 ∷ 1 ∷ 0 ∷ 0 ∷ 0 ∷ 0 ∷ 0 ∷ 0 ∷ 32 ∷ 0 ∷ 0 ∷ 0 ∷ 0 ∷ 0 ∷ 0 ∷ 0 ∷ 97 ∷ 0 ∷ [])
+    (5 ∷ 0 ∷ 0 ∷ 0 ∷ 0 ∷ 0 ∷ 0 ∷ 0 ∷ 0 ∷ 0 ∷ 0 ∷ 0 ∷ 0 ∷ 0 ∷ 0 ∷ 0 ∷ 44 ∷ 1 ∷ 0 ∷ 0 ∷ 0 ∷ 0 ∷ 0 ∷ 0 ∷ 32 ∷ 0 ∷ 0 ∷ 0 ∷ 0 ∷ 0 ∷ 0 ∷ 0 ∷ 97
+    ∷ 0 ∷ [])
     ≡ Some (unfit (At 0 ∷ Nth 1 ∷ At 0 ∷ []))
 second_record_does_not_fit = refl
 
@@ -213,7 +230,8 @@ second_record_has_a_path : path_of records_to (At 0 ∷ Nth 1 ∷ At 0 ∷ []) �
 second_record_has_a_path = refl
 
 -- a string and a number of one name clash
-string_and_number_clash : clash (layout_of Little 4 4 (field_of a_name Text One 4 0 ∷ [])) (layout_of Little 4 4 (int_field a_name 4 0 ∷ [])) ≡ Some (step.Field a_name ∷ [])
+string_and_number_clash : clash (layout_of Little 4 4 (field_of a_name Text One 4 0 ∷ []))
+    (layout_of Little 4 4 (int_field a_name 4 0 ∷ [])) ≡ Some (step.Field a_name ∷ [])
 string_and_number_clash = refl
 
 records_do_not_clash : clash records_from records_to ≡ None
@@ -242,17 +260,20 @@ null_list = refl
 
 -- descriptions
 small_is_described : describe small
-    ≡ 78 ∷ 68 ∷ 70 ∷ 49 ∷ 0 ∷ 4 ∷ 0 ∷ 1 ∷ 1 ∷ 112 ∷ 0 ∷ 0 ∷ 0 ∷ 4 ∷ 0 ∷ 1 ∷ 1 ∷ 120 ∷ 7 ∷ 105 ∷ 110 ∷ 116 ∷ 101 ∷ 103 ∷ 101 ∷ 114 ∷ 0 ∷ 0 ∷ 0 ∷ 4 ∷ 0 ∷ 0 ∷ 0 ∷ 0 ∷ []
+    ≡ 78 ∷ 68 ∷ 70 ∷ 49 ∷ 0 ∷ 4 ∷ 0 ∷ 1 ∷ 1 ∷ 112 ∷ 0 ∷ 0 ∷ 0 ∷ 4 ∷ 0 ∷ 1 ∷ 1 ∷ 120 ∷ 7 ∷ 105 ∷ 110 ∷ 116 ∷ 101 ∷ 103 ∷ 101 ∷ 114 ∷ 0 ∷ 0
+    ∷ 0 ∷ 4 ∷ 0 ∷ 0 ∷ 0 ∷ 0 ∷ []
 small_is_described = refl
 
 -- a stated default
 abbrev with_default : Layout
-with_default = layout_of Big 8 16 (record { name = y_name; base = Number Int; shape = One; size = 4; offset = 0; fallback = negsuc 0 } ∷ int_field x_name 8 8 ∷ [])
+with_default = layout_of Big 8 16 (record { name = y_name; base = Number Int; shape = One; size = 4; offset = 0; fallback = negsuc 0 }
+    ∷ int_field x_name 8 8 ∷ [])
 
 description_with_default : length (describe with_default) ≡ 84
 description_with_default = refl
 
-default_is_taken : conversion small with_default 4096 (7 ∷ 0 ∷ 0 ∷ 0 ∷ []) ≡ Some (made (two_entries y_name (num (negsuc 0)) x_name (num (pos 7))) 16)
+default_is_taken : conversion small with_default 4096 (7 ∷ 0 ∷ 0 ∷ 0 ∷ [])
+    ≡ Some (made (two_entries y_name (num (negsuc 0)) x_name (num (pos 7))) 16)
 default_is_taken = refl
 
 default_is_written : value_text (two_entries y_name (num (negsuc 0)) x_name (num (pos 7))) ≡ codes "{y=-1,x=7}"

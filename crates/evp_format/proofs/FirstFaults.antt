@@ -2,10 +2,11 @@
 -- The answers were worked out by hand, and found again by an implementation that shares no code with this one.
 use Rattle.std.proofs.Common.{◌≡◌, pos, negsuc, refl, [], ◌∷◌}
 use Rattle.evp_base.specs.declared.order.Order.TheVariants.{Little, Big}
-use Rattle.evp_format.specs.Conversion.{conversion, converted, unfit_at, large_at}
+use Rattle.evp_format.specs.Conversion.{conversion, clashes, converted, unfit_at, large_at}
 use Rattle.evp_format.specs.Datum.{num}
 use Rattle.evp_format.specs.Layout.{Layout, layout_with}
-use Rattle.evp_format.proofs.Worked.{integer, unsigned, string, nested, array, counted, type_of, name, index, number, absent, written, listed, inside, record_of}
+use Rattle.evp_format.proofs.Worked.{integer, unsigned, string, nested, array, counted, type_of, name, index, number, absent, written}
+use Rattle.evp_format.proofs.Worked.{listed, inside, record_of}
 
 abbrev numbers_then_texts : Layout
 numbers_then_texts =
@@ -15,6 +16,12 @@ abbrev texts_and_narrow_numbers : Layout
 texts_and_narrow_numbers =
     layout_with Little 4 (type_of "p" 12 (string "s" 4 8 ∷ integer "w" 1 0 ∷ string "t" 4 4 ∷ unsigned "x" 1 3 ∷ [])
     ∷ [])
+
+-- a clash comes before all faults of a conversion
+a_clash_comes_first : conversion (layout_with Little 4 (type_of "p" 4 (string "w" 4 0 ∷ []) ∷ [])) texts_and_narrow_numbers
+    (record_of (written "w" "a" ∷ [])) 1
+    ≡ clashes (name "w" ∷ [])
+a_clash_comes_first = refl
 
 -- both numbers unfit, both texts large: w is listed before x in the receiver
 w_is_listed_before_x : conversion numbers_then_texts texts_and_narrow_numbers

@@ -33,7 +33,12 @@ five_fields = record {
 
 -- `{a integer 4, b integer[2] 2}`
 abbrev plain : RecordType
-plain = record { name = codes "p"; length = 8; fields = field_of (codes "a") (Number Int) One 4 0 ∷ field_of (codes "b") (Number Int) (Fixed 2) 2 4 ∷ [] }
+plain = record {
+  name = codes "p";
+  length = 8;
+  fields = field_of (codes "a") (Number Int) One 4 0
+      ∷ field_of (codes "b") (Number Int) (Fixed 2) 2 4 ∷ [];
+}
 
 -- `{p p, s s[2], n integer 4, l p[n]}`
 abbrev outer : RecordType
@@ -51,7 +56,8 @@ layout = record { order = Little; pointer = 4; types = five_fields ∷ plain ∷
 -- the string, and the array by its count
 of_five_fields : leads_of layout 0
     ≡ record { number = 2; offset = 8; size = 4; run = run.One; inside = inside.Text }
-    ∷ record { number = 4; offset = 16; size = 2; run = run.Counted (record { offset = 12; size = 4; kind = Int }); inside = inside.Plain } ∷ []
+    ∷ record { number = 4; offset = 16; size = 2; run = run.Counted (record { offset = 12; size = 4; kind = Int }); inside = inside.Plain }
+    ∷ []
 of_five_fields = refl
 
 -- numbers lead nowhere
@@ -61,7 +67,8 @@ of_plain = refl
 -- a record without pointers is none, an array of records with pointers is one, and so is a counted array of records without
 of_outer : leads_of layout 2
     ≡ record { number = 1; offset = 8; size = 20; run = run.Fixed 2; inside = inside.Record 0 }
-    ∷ record { number = 3; offset = 52; size = 8; run = run.Counted (record { offset = 48; size = 4; kind = Int }); inside = inside.Plain } ∷ []
+    ∷ record { number = 3; offset = 52; size = 8; run = run.Counted (record { offset = 48; size = 4; kind = Int }); inside = inside.Plain }
+    ∷ []
 of_outer = refl
 
 -- there is no such type

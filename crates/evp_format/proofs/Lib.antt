@@ -8,6 +8,7 @@ mod DescriptionExamples
 pub mod Descriptions
 mod Examples
 mod LeadExamples
+pub mod LaidBases
 pub mod LeadFacts
 pub mod Lists
 pub mod Parts
@@ -29,8 +30,10 @@ pub mod MadeNumbers
 pub mod Names
 pub mod Places
 pub mod Pushed
+pub mod SameValues
 pub mod StatedFields
 pub mod KeptTypes
+pub mod TypesAgain
 pub mod TypeTexts
 pub mod WellLaidFormats
 pub mod WellLaidTypes
@@ -39,6 +42,7 @@ pub mod WrittenTypes
 pub mod ZeroSizes
 pub mod Zeros
 mod ClashExamples
+mod PackExamples
 pub mod Clashes
 mod ConvertedCounts
 mod ConvertedDefaults

@@ -5,4 +5,5 @@ use Rattle.std.specs.Prelude.{slice_get}
 
 -- an element that was read from a list that equals this one
 pub found_at : {A : Type 0} (xs ys : List A) (k : ℕ) (x : A) → xs ≡ ys → k < length xs → x ≡ get_or xs k x → slice_get ys k ≡ Some x
-found_at {A = A} xs ys k x same below read = ap (λ (zs : List A). slice_get zs k) (sym same) ∙ slice_get_read xs (length xs) k x refl below read
+found_at {A = A} xs ys k x same below read = ap (λ (zs : List A). slice_get zs k) (sym same)
+    ∙ slice_get_read xs (length xs) k x refl below read

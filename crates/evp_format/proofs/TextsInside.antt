@@ -32,22 +32,26 @@ pub named_texts : (name : List ℕ) (entries : Entries) → EntriesHaveTexts ent
 named_texts name empty_record texts = tt
 named_texts name (entry other datum rest) texts = by_test (bytes_equal name other) texts.0 (named_texts name rest texts.1)
   where
-    by_test : (test : Bool) → HasTexts datum → HasTextsWhereSome (named name rest) → HasTextsWhereSome (if test then Some datum else named name rest)
+    by_test : (test : Bool) → HasTexts datum → HasTextsWhereSome (named name rest)
+        → HasTextsWhereSome (if test then Some datum else named name rest)
     by_test true here there = here
     by_test false here there = there
 
-each_texts : (P : Datum → Type 0) (elements : Elements) → ((datum : Datum) → P datum → HasTexts datum) → EachElement P elements → EachHasTexts elements
+each_texts : (P : Datum → Type 0) (elements : Elements) → ((datum : Datum) → P datum → HasTexts datum) → EachElement P elements
+    → EachHasTexts elements
 each_texts P empty_list texts each = tt
 each_texts P (element datum rest) texts each = (texts datum each.0, each_texts P rest texts each.1)
 
-list_texts : (P : Datum → Type 0) (count : Option ℤ) (datum : Datum) → ((inner : Datum) → P inner → HasTexts inner) → IsListOf P count datum → HasTexts datum
+list_texts : (P : Datum → Type 0) (count : Option ℤ) (datum : Datum) → ((inner : Datum) → P inner → HasTexts inner) → IsListOf P count datum
+    → HasTexts datum
 list_texts P count (num z) texts typed = absurd typed
 list_texts P count null texts typed = absurd typed
 list_texts P count (text bytes) texts typed = absurd typed
 list_texts P count (list elements) texts typed = each_texts P elements texts typed.1
 list_texts P count (rec entries) texts typed = absurd typed
 
-shaped_texts : (P : Datum → Type 0) (all : Entries) (shape : Shape) (datum : Datum) → ((inner : Datum) → P inner → HasTexts inner) → IsShaped all shape P datum → HasTexts datum
+shaped_texts : (P : Datum → Type 0) (all : Entries) (shape : Shape) (datum : Datum) → ((inner : Datum) → P inner → HasTexts inner)
+    → IsShaped all shape P datum → HasTexts datum
 shaped_texts P all One datum texts typed = texts datum typed
 shaped_texts P all (Fixed n) datum texts typed = list_texts P _ datum texts typed
 shaped_texts P all (Counted c) datum texts typed = list_texts P _ datum texts typed
@@ -60,8 +64,10 @@ mutual
   branches_texts all no_fields empty_record typed = tt
   branches_texts all no_fields (entry name datum rest) typed = absurd typed
   branches_texts all (branch field part others) empty_record typed = absurd typed
-  branches_texts all (branch field part others) (entry name datum rest) typed =
-      (shaped_texts (IsOfPart part field.size) all field.shape datum (λ inner is. part_texts part field.size inner is) typed.1, branches_texts all others rest typed.2)
+  branches_texts all (branch field part others) (entry name datum rest) typed = (
+    shaped_texts (IsOfPart part field.size) all field.shape datum (λ inner is. part_texts part field.size inner is) typed.1,
+    branches_texts all others rest typed.2,
+  )
 
   pub part_texts : (part : Part) (size : ℕ) (datum : Datum) → IsOfPart part size datum → HasTexts datum
   part_texts (number_part kind) size (num z) typed = tt

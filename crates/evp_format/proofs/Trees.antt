@@ -1,5 +1,6 @@
 -- The tree of a type: it doesn't depend on later types, and a well laid type's is resolved against the trees of all types.
-use Rattle.std.proofs.Common.{◌≡◌, ℕ, zero, suc, ◌+◌, ◌-◌, ◌<◌, ◌≤◌, List, [], ◌∷◌, ◌++◌, length, get_or, take, drop, Some, refl, sym, ap, ◌∙◌, subst, arith, length-append, take-append-drop}
+use Rattle.std.proofs.Common.{◌≡◌, ℕ, zero, suc, ◌+◌, ◌-◌, ◌<◌, ◌≤◌, List, [], ◌∷◌, ◌++◌, length, get_or, take, drop, Some, refl, sym, ap}
+use Rattle.std.proofs.Common.{◌∙◌, subst, arith, length-append, take-append-drop}
 use Rattle.std.specs.Prelude.{slice_get}
 use Rattle.evp_format.specs.declared.field.Base.{Base}
 use Rattle.evp_format.specs.declared.field.Base.TheVariants.{Number, Text, Nested}
@@ -7,14 +8,17 @@ use Rattle.evp_format.specs.declared.field.Field.{Field}
 use Rattle.evp_format.specs.declared.record_type.RecordType.{RecordType}
 use Rattle.evp_format.specs.LaidTree.{Matches, IsLaidRecord, IsLaidTree, AreLaidBranches, IsLaidPart}
 use Rattle.evp_format.specs.Layout.{Layout}
-use Rattle.evp_format.specs.Tree.{Tree, tree_part, empty_tree, part_of, branches_of, resolved, trees_behind, trees, tree_of, root_of, fields_of, tree, length_of}
+use Rattle.evp_format.specs.Tree.{Tree, tree_part, empty_tree, part_of, branches_of, resolved, trees_behind, trees, tree_of, root_of}
+use Rattle.evp_format.specs.Tree.{fields_of, tree, length_of}
 use Rattle.evp_format.specs.WellLaid.{IsWellLaid, HasBaseSize}
 
-pub trees_behind-append : (earlier : List Tree) (types more : List RecordType) → trees_behind earlier (types ++ more) ≡ trees_behind (trees_behind earlier types) more
+pub trees_behind-append : (earlier : List Tree) (types more : List RecordType)
+    → trees_behind earlier (types ++ more) ≡ trees_behind (trees_behind earlier types) more
 trees_behind-append earlier [] more = refl
 trees_behind-append earlier (type ∷ types) more = trees_behind-append (earlier ++ resolved earlier type ∷ []) types more
 
-pub length-trees_behind : (earlier : List Tree) (types : List RecordType) → length (trees_behind earlier types) ≡ length earlier + length types
+pub length-trees_behind : (earlier : List Tree) (types : List RecordType)
+    → length (trees_behind earlier types) ≡ length earlier + length types
 length-trees_behind earlier [] = omega arith
 length-trees_behind earlier (type ∷ types) =
     let rest = length-trees_behind (earlier ++ resolved earlier type ∷ []) types in
@@ -31,20 +35,25 @@ get_or-append_at : {A : Type 0} (xs ys : List A) (x : A) (d : A) → get_or (xs 
 get_or-append_at [] ys x d = refl
 get_or-append_at (y ∷ xs) ys x d = get_or-append_at xs ys x d
 
-pub get_or-trees_behind : (earlier : List Tree) (types : List RecordType) (k : ℕ) (d : Tree) → k < length earlier → get_or (trees_behind earlier types) k d ≡ get_or earlier k d
+pub get_or-trees_behind : (earlier : List Tree) (types : List RecordType) (k : ℕ) (d : Tree) → k < length earlier
+    → get_or (trees_behind earlier types) k d ≡ get_or earlier k d
 get_or-trees_behind earlier [] k d below = refl
 get_or-trees_behind earlier (type ∷ types) k d below =
     let grown = length-append earlier (resolved earlier type ∷ []) in
-    get_or-trees_behind (earlier ++ resolved earlier type ∷ []) types k d (omega (arith, grown)) ∙ get_or-append_left earlier (resolved earlier type ∷ []) k d below
+    get_or-trees_behind (earlier ++ resolved earlier type ∷ []) types k d (omega (arith, grown))
+    ∙ get_or-append_left earlier (resolved earlier type ∷ []) k d below
 
 -- the tree of an earlier type doesn't depend on later types
-pub get_or-trees-append : (types more : List RecordType) (k : ℕ) (d : Tree) → k < length types → get_or (trees (types ++ more)) k d ≡ get_or (trees types) k d
+pub get_or-trees-append : (types more : List RecordType) (k : ℕ) (d : Tree) → k < length types
+    → get_or (trees (types ++ more)) k d ≡ get_or (trees types) k d
 get_or-trees-append types more k d below =
     let count = length-trees_behind [] types in
-    ap (λ (all : List Tree). get_or all k d) (trees_behind-append [] types more) ∙ get_or-trees_behind (trees types) more k d (omega (arith, count))
+    ap (λ (all : List Tree). get_or all k d) (trees_behind-append [] types more)
+    ∙ get_or-trees_behind (trees types) more k d (omega (arith, count))
 
 -- a list split round the element at k
-split_at : (types : List RecordType) (k : ℕ) (type : RecordType) → slice_get types k ≡ Some type → types ≡ take k types ++ type ∷ drop (suc k) types
+split_at : (types : List RecordType) (k : ℕ) (type : RecordType) → slice_get types k ≡ Some type
+    → types ≡ take k types ++ type ∷ drop (suc k) types
 split_at [] k type found = cc
 split_at (first ∷ types) zero type found = let same : first ≡ type = cc in ap (λ (t : RecordType). t ∷ types) same
 split_at (first ∷ types) (suc k) type found = ap (λ (rest : List RecordType). first ∷ rest) (split_at types k type found)
@@ -60,7 +69,8 @@ length-take_below [] (suc k) below = absurd (omega arith)
 length-take_below (x ∷ xs) (suc k) below = ap suc (length-take_below xs k (omega arith))
 
 -- the tree of type k, resolved against the trees of the types before it
-pub get_or-trees : (types : List RecordType) (k : ℕ) (type : RecordType) (d : Tree) → slice_get types k ≡ Some type → get_or (trees types) k d ≡ resolved (trees (take k types)) type
+pub get_or-trees : (types : List RecordType) (k : ℕ) (type : RecordType) (d : Tree) → slice_get types k ≡ Some type
+    → get_or (trees types) k d ≡ resolved (trees (take k types)) type
 get_or-trees types k type d found =
     let below = slice_get-below types k type found in
     let before = length-trees_behind [] (take k types) in
@@ -113,11 +123,13 @@ pub tree_of-resolved : (layout : Layout) (k : ℕ) (type : RecordType) → IsWel
 tree_of-resolved layout k type laid found =
     let here = get_or-trees layout.types k type empty_tree found in
     let each = laid.each_type k type found in
-    here ∙ ap (tree type.length) (branches_of-trees layout.pointer layout.types k type.fields (λ i field at. (each.each_field i field at).size_allowed))
+    here ∙ ap (tree type.length) (branches_of-trees layout.pointer layout.types k type.fields
+    (λ i field at. (each.each_field i field at).size_allowed))
 
 -- the parts of fields whose bases name types that are well laid as trees
 laid_branches : (pointer : ℕ) (earlier : List RecordType) (all : List Tree) (fields : List Field)
-    → ((n : ℕ) (type : RecordType) → slice_get earlier n ≡ Some type → (type.length ≡ length_of (get_or all n empty_tree)) × IsLaidTree pointer (get_or all n empty_tree))
+    → ((n : ℕ) (type : RecordType) → slice_get earlier n ≡ Some type → (type.length ≡ length_of (get_or all n empty_tree))
+    × IsLaidTree pointer (get_or all n empty_tree))
     → ((i : ℕ) (field : Field) → slice_get fields i ≡ Some field → HasBaseSize pointer earlier field.base field.size)
     → AreLaidBranches pointer (branches_of all fields)
 laid_branches pointer earlier all [] nested sized = tt
@@ -127,7 +139,8 @@ laid_branches pointer earlier all (field ∷ fields) nested sized =
     (first.0, first.1, rest)
   where
     laid_part : (pointer : ℕ) (earlier : List RecordType) (all : List Tree) (base : Base) (size : ℕ)
-        → ((n : ℕ) (type : RecordType) → slice_get earlier n ≡ Some type → (type.length ≡ length_of (get_or all n empty_tree)) × IsLaidTree pointer (get_or all n empty_tree))
+        → ((n : ℕ) (type : RecordType) → slice_get earlier n ≡ Some type → (type.length ≡ length_of (get_or all n empty_tree))
+        × IsLaidTree pointer (get_or all n empty_tree))
         → HasBaseSize pointer earlier base size → Matches base (part_of all base) × IsLaidPart pointer size (part_of all base)
     laid_part pointer earlier all (Number kind) size nested sized = (refl, sized)
     laid_part pointer earlier all Text size nested sized = (tt, sized)
@@ -142,7 +155,8 @@ length-take_le (suc k) (x ∷ xs) = let rest = length-take_le k xs in omega (ari
 -- the tree of type k is well laid where those of the earlier types are
 laid_tree_step : (layout : Layout) (k : ℕ) (type : RecordType) → IsWellLaid layout → slice_get layout.types k ≡ Some type
     → ((n : ℕ) (inner : RecordType) → slice_get (take k layout.types) n ≡ Some inner
-    → (inner.length ≡ length_of (get_or (trees layout.types) n empty_tree)) × IsLaidTree layout.pointer (get_or (trees layout.types) n empty_tree))
+    → (inner.length ≡ length_of (get_or (trees layout.types) n empty_tree))
+    × IsLaidTree layout.pointer (get_or (trees layout.types) n empty_tree))
     → IsLaidTree layout.pointer (resolved (trees layout.types) type)
 laid_tree_step layout k type laid found nested =
     let each = laid.each_type k type found in
@@ -153,8 +167,11 @@ laid_tree_step layout k type laid found nested =
       laid = each;
       has_length = refl;
       has_fields = sym (fields_of-branches_of (trees layout.types) type.fields);
-    } in
-    (record_laid, laid_branches layout.pointer (take k layout.types) (trees layout.types) type.fields nested (λ i field at. (each.each_field i field at).size_allowed))
+    } in (
+      record_laid,
+      laid_branches layout.pointer (take k layout.types) (trees layout.types) type.fields nested
+          (λ i field at. (each.each_field i field at).size_allowed),
+    )
 
 -- the tree of each type of a well laid format is well laid, and of the type's length
 laid_tree_below : (layout : Layout) → IsWellLaid layout → (n k : ℕ) (type : RecordType) → k < n → slice_get layout.types k ≡ Some type

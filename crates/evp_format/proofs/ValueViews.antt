@@ -20,11 +20,14 @@ pub datum_of-Rec : (members : Members) → datum_of (Rec members) ≡ rec (membe
 datum_of-Rec members = search (rules, the_lemmas)
 
 -- a list and a record made from their parts
-pub datum_of-values : (values : Vec Value Global) → datum_of (List_of (roll-Items (record { values = values }))) ≡ list (elements_of_values values.items)
+pub datum_of-values : (values : Vec Value Global) → datum_of (List_of (roll-Items (record { values = values })))
+    ≡ list (elements_of_values values.items)
 datum_of-values values = search (rules, the_lemmas)
 
-pub datum_of-pairs : (pairs : Vec (List ℕ × Value) Global) → datum_of (Rec (roll-Members (record { pairs = pairs }))) ≡ rec (entries_of_pairs pairs.items)
+pub datum_of-pairs : (pairs : Vec (List ℕ × Value) Global) → datum_of (Rec (roll-Members (record { pairs = pairs })))
+    ≡ rec (entries_of_pairs pairs.items)
 datum_of-pairs pairs =
     let made : Members-F Value Items Members = record { pairs = pairs } in
     let opened : out-Members (roll-Members made) ≡ made = search (rules, the_lemmas) in
-    datum_of-Rec (roll-Members made) ∙ ap rec (members_of-pairs (roll-Members made)) ∙ ap (λ (members : Members-F Value Items Members). rec (entries_of_pairs members.pairs.items)) opened
+    datum_of-Rec (roll-Members made) ∙ ap rec (members_of-pairs (roll-Members made))
+    ∙ ap (λ (members : Members-F Value Items Members). rec (entries_of_pairs members.pairs.items)) opened

@@ -7,7 +7,8 @@ use Rattle.evp_format.specs.declared.place.PlaceStep.TheVariants.{At, Nth}
 use Rattle.evp_format.specs.Datum.{num}
 use Rattle.evp_format.specs.Layout.{Layout, layout_with}
 use Rattle.evp_format.specs.Viewing.{view}
-use Rattle.evp_format.proofs.Worked.{integer, unsigned, char, boolean, enumeration, string, nested, array, counted, type_of, number, absent, written, listed, record_of}
+use Rattle.evp_format.proofs.Worked.{integer, unsigned, char, boolean, enumeration, string, nested, array, counted, type_of, number, absent}
+use Rattle.evp_format.proofs.Worked.{written, listed, record_of}
 
 abbrev one_string : Layout
 one_string =

@@ -1,5 +1,6 @@
 -- Numbers of 16 bytes.
-use Rattle.std.proofs.Common.{◌≡◌, ℕ, zero, suc, ◌*◌, ◌/◌, ◌%◌, ◌^◌, ◌<◌, ℤ, pos, negsuc, List, [], ◌∷◌, ◌++◌, reverse, refl, sym, ap, ◌∙◌, arith}
+use Rattle.std.proofs.Common.{◌≡◌, ℕ, zero, suc, ◌*◌, ◌/◌, ◌%◌, ◌^◌, ◌<◌, ℤ, pos, negsuc, List, [], ◌∷◌, ◌++◌, reverse, refl, sym, ap, ◌∙◌}
+use Rattle.std.proofs.Common.{arith}
 use Rattle.std.specs.Int.{w128, byte_at, bytes_high_first, cast_unsigned}
 use Rattle.std.specs.Prelude.{FitsSigned}
 use Rattle.std.proofs.Math.Nat.{div-div-eq-div-mul, pow-succ', mod-eq_of_lt}
@@ -17,7 +18,8 @@ byte_at-suc (suc k) n =
 low_digits-push : (k n : ℕ) → low_digits (suc k) n ≡ low_digits k n ++ byte_at k n ∷ []
 low_digits-push zero n = refl
 low_digits-push (suc k) n =
-    ap (λ (rest : List ℕ). n % 256 ∷ rest) (low_digits-push k (n / 256)) ∙ ap (λ (byte : ℕ). low_digits (suc k) n ++ byte ∷ []) (sym (byte_at-suc k n))
+    ap (λ (rest : List ℕ). n % 256 ∷ rest) (low_digits-push k (n / 256))
+    ∙ ap (λ (byte : ℕ). low_digits (suc k) n ++ byte ∷ []) (sym (byte_at-suc k n))
 
 pub bytes_high_first-digits : (k n : ℕ) → bytes_high_first k n ≡ reverse (low_digits k n)
 bytes_high_first-digits zero n = refl
@@ -27,7 +29,8 @@ bytes_high_first-digits (suc k) n =
 
 residue_is : (z : ℤ) → FitsSigned w128 z → cast_unsigned w128 z ≡ residue z (2 ^ 128)
 residue_is (pos n) fits = sym (mod-eq_of_lt (omega (arith, ints)))
-residue_is (negsuc n) fits = let small : n < 2 ^ 127 = omega (arith, ints) in let same : n % 2 ^ 128 ≡ n = mod-eq_of_lt (omega arith) in rw same (omega arith)
+residue_is (negsuc n) fits = let small : n < 2 ^ 127 = omega (arith, ints) in let same : n % 2 ^ 128
+    ≡ n = mod-eq_of_lt (omega arith) in rw same (omega arith)
 
 -- a number of 16 bytes, the highest first
 pub sixteen_bytes : (z : ℤ) → FitsSigned w128 z → bytes_high_first 16 (cast_unsigned w128 z) ≡ digits Big 16 z

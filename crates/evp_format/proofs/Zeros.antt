@@ -1,5 +1,6 @@
 -- The zero of a well laid type is of that type: a field that counts elements has no default but 0.
-use Rattle.std.proofs.Common.{◌≡◌, ℕ, zero, suc, ◌+◌, ℤ, pos, List, length, Option, Some, refl, sym, ap, ◌∙◌, subst, arith, add-zero, ⊎_elim, ◌⊎◌, inl, inr}
+use Rattle.std.proofs.Common.{◌≡◌, ℕ, zero, suc, ◌+◌, ℤ, pos, List, length, Option, Some, refl, sym, ap, ◌∙◌, subst, arith, add-zero}
+use Rattle.std.proofs.Common.{⊎_elim, ◌⊎◌, inl, inr}
 use Rattle.std.proofs.lemmas.Int.{ints}
 use Rattle.std.specs.Prelude.{slice_get}
 use Rattle.evp_base.specs.declared.kind.Kind.{Kind}
@@ -37,7 +38,8 @@ pub copies_typed : (P : Datum → Type 0) (n : ℕ) (datum : Datum) → P datum 
 copies_typed P n datum holds = (ap (λ (m : ℕ). Some (pos m)) (sym (count_of-copies n datum)), each_copy P n datum holds)
 
 -- the field of this number, with its part
-pub branch_found : (pointer : ℕ) (branches : Branches) (k : ℕ) (field : Field) → AreLaidBranches pointer branches → slice_get (fields_of branches) k ≡ Some field
+pub branch_found : (pointer : ℕ) (branches : Branches) (k : ℕ) (field : Field) → AreLaidBranches pointer branches
+    → slice_get (fields_of branches) k ≡ Some field
     → (part : Part) × (branch_at branches k ≡ Some (field, part)) × Matches field.base part × IsLaidPart pointer field.size part
 branch_found pointer no_fields k field laid found = cc
 branch_found pointer (branch other part rest) zero field laid found =
@@ -52,7 +54,8 @@ entry_at-zero_branches : (all branches : Branches) (k : ℕ) (field : Field) (pa
     → entry_at (zero_branches all branches) k ≡ Some (zero_shaped all field field.shape part (zero_part part))
 entry_at-zero_branches all no_fields k field part found = cc
 entry_at-zero_branches all (branch other part' rest) zero field part found =
-    let same : (other, part') ≡ (field, part) = cc in ap (λ (b : Field × Part). Some (zero_shaped all b.0 b.0.shape b.1 (zero_part b.1))) same
+    let same : (other, part') ≡ (field, part) = cc in ap (λ (b : Field × Part). Some (zero_shaped all b.0 b.0.shape b.1 (zero_part b.1)))
+    same
 entry_at-zero_branches all (branch other part' rest) (suc k) field part found = entry_at-zero_branches all rest k field part found
 
 -- a field that counts elements is a single number
@@ -64,7 +67,8 @@ counting_part Text part counts matches = absurd counts
 counting_part (Nested n) part counts matches = absurd counts
 
 -- the count of an array is 0
-zero_count : (all : Branches) (c : ℕ) (field : Field) (kind : Kind) → branch_at all c ≡ Some (field, number_part kind) → field.shape ≡ One → field.fallback ≡ pos 0
+zero_count : (all : Branches) (c : ℕ) (field : Field) (kind : Kind) → branch_at all c ≡ Some (field, number_part kind) → field.shape ≡ One
+    → field.fallback ≡ pos 0
     → (as_count (default_of (branch_at all c)) ≡ 0) × (count_in (entry_at (zero_branches all all) c) ≡ Some (pos 0))
 zero_count all c field kind found single none = (
   ap (λ b. as_count (default_of b)) found ∙ ap as_count none,
@@ -73,7 +77,8 @@ zero_count all c field kind found single none = (
 )
 
 -- a single number field's default is in its range
-default_typed : (fields : List Field) (k : ℕ) (field : Field) (base : Base) (kind : Kind) → Matches base (number_part kind) → field.base ≡ base
+default_typed : (fields : List Field) (k : ℕ) (field : Field) (base : Base) (kind : Kind) → Matches base (number_part kind)
+    → field.base ≡ base
     → (field.fallback ≡ pos 0) ⊎ StatesDefault fields k field → InRange kind field.size field.fallback
 default_typed fields k field (Number kind') kind matches is (inl none) = rw none (zero_in_range kind field.size)
 default_typed fields k field (Number kind') kind matches is (inr stated) = rw (← matches) (rw is at stated.in_range)
@@ -81,8 +86,10 @@ default_typed fields k field Text kind matches is stated = absurd matches
 default_typed fields k field (Nested n) kind matches is stated = absurd matches
 
 -- the field that counts an array of a well laid record: a single number
-pub counter_found : (pointer length : ℕ) (all : Branches) (k c : ℕ) (field : Field) → IsLaidRecord pointer length all → AreLaidBranches pointer all → slice_get (fields_of all) k ≡ Some field
-    → field.shape ≡ Counted c → (counter : Field) × (kind : Kind) × (branch_at all c ≡ Some (counter, number_part kind)) × (counter.shape ≡ One) × (counter.fallback ≡ pos 0)
+pub counter_found : (pointer length : ℕ) (all : Branches) (k c : ℕ) (field : Field) → IsLaidRecord pointer length all
+    → AreLaidBranches pointer all → slice_get (fields_of all) k ≡ Some field
+    → field.shape ≡ Counted c → (counter : Field) × (kind : Kind) × (branch_at all c ≡ Some (counter, number_part kind))
+    × (counter.shape ≡ One) × (counter.fallback ≡ pos 0)
 counter_found pointer length all k c field record_laid laid found is =
     let fields_are = record_laid.has_fields in
     let of_type : slice_get record_laid.type.fields k ≡ Some field = ap (λ (fields : List Field). slice_get fields k) fields_are ∙ found in
@@ -91,20 +98,24 @@ counter_found pointer length all k c field record_laid laid found is =
     let counter = counted.0 in
     let at_c = counted.1 in
     let none : counter.fallback ≡ pos 0 =
-    ⊎_elim (λ e. e) (λ stated. absurd (stated.counts_nothing k field of_type is)) (record_laid.laid.each_field c counter at_c).default_allowed in
+    ⊎_elim (λ e. e) (λ stated. absurd (stated.counts_nothing k field of_type is))
+    (record_laid.laid.each_field c counter at_c).default_allowed in
     let branch_is = branch_found pointer all c counter laid (ap (λ (fields : List Field). slice_get fields c) (sym fields_are) ∙ at_c) in
     let number = counting_part counter.base branch_is.0 counted.3 branch_is.2 in
     (counter, number.0, branch_is.1 ∙ ap (λ (p : Part). Some (counter, p)) number.1, counted.2, none)
 
 -- its default is 0
-pub counted_by_none : (pointer length : ℕ) (all : Branches) (k c : ℕ) (field : Field) → IsLaidRecord pointer length all → AreLaidBranches pointer all → slice_get (fields_of all) k ≡ Some field
-    → field.shape ≡ Counted c → (as_count (default_of (branch_at all c)) ≡ 0) × (count_in (entry_at (zero_branches all all) c) ≡ Some (pos 0))
+pub counted_by_none : (pointer length : ℕ) (all : Branches) (k c : ℕ) (field : Field) → IsLaidRecord pointer length all
+    → AreLaidBranches pointer all → slice_get (fields_of all) k ≡ Some field
+    → field.shape ≡ Counted c → (as_count (default_of (branch_at all c)) ≡ 0)
+    × (count_in (entry_at (zero_branches all all) c) ≡ Some (pos 0))
 counted_by_none pointer length all k c field record_laid laid found is =
     let counter = counter_found pointer length all k c field record_laid laid found is in
     zero_count all c counter.0 counter.1 counter.2 counter.3 counter.4
 
 -- a field by its shape, where it stands in a well laid record
-zero_shaped_typed : (pointer : ℕ) (length : ℕ) (all : Branches) (k : ℕ) (field : Field) (part : Part) (shape : Shape) → IsLaidRecord pointer length all → AreLaidBranches pointer all
+zero_shaped_typed : (pointer : ℕ) (length : ℕ) (all : Branches) (k : ℕ) (field : Field) (part : Part) (shape : Shape)
+    → IsLaidRecord pointer length all → AreLaidBranches pointer all
     → slice_get (fields_of all) k ≡ Some field → field.shape ≡ shape → Matches field.base part → IsOfPart part field.size (zero_part part)
     → IsShaped (zero_branches all all) shape (λ value. IsOfPart part field.size value) (zero_shaped all field shape part (zero_part part))
 zero_shaped_typed pointer length all k field part One record_laid laid found is matches zero_typed = single part matches zero_typed
@@ -112,9 +123,11 @@ zero_shaped_typed pointer length all k field part One record_laid laid found is 
     of_type : slice_get record_laid.type.fields k ≡ Some field
     of_type = ap (λ (fields : List Field). slice_get fields k) record_laid.has_fields ∙ found
 
-    single : (part : Part) → Matches field.base part → IsOfPart part field.size (zero_part part) → IsOfPart part field.size (zero_single field part (zero_part part))
+    single : (part : Part) → Matches field.base part → IsOfPart part field.size (zero_part part)
+        → IsOfPart part field.size (zero_single field part (zero_part part))
     single (number_part kind) matches typed =
-        default_typed record_laid.type.fields k field field.base kind matches refl (record_laid.laid.each_field k field of_type).default_allowed
+        default_typed record_laid.type.fields k field field.base kind matches refl
+        (record_laid.laid.each_field k field of_type).default_allowed
     single text_part matches typed = typed
     single (tree_part nested) matches typed = typed
 zero_shaped_typed pointer length all k field part (Fixed n) record_laid laid found is matches zero_typed =
@@ -129,11 +142,14 @@ zero_shaped_typed pointer length all k field part (Counted c) record_laid laid f
 mutual
   -- the zero of a well laid type
   pub zero_tree_typed : (pointer size : ℕ) (t : Tree) → IsLaidTree pointer t → IsOfPart (tree_part t) size (zero_tree t)
-  zero_tree_typed pointer size (tree length branches) laid = zero_branches_typed pointer length branches branches 0 laid.0 laid.1 laid.1 (λ i. ap (slice_get (fields_of branches)) (omega arith))
+  zero_tree_typed pointer size (tree length branches) laid = zero_branches_typed pointer length branches branches 0 laid.0 laid.1 laid.1
+      (λ i. ap (slice_get (fields_of branches)) (omega arith))
 
   -- its fields from number k on
-  zero_branches_typed : (pointer length : ℕ) (all branches : Branches) (k : ℕ) → IsLaidRecord pointer length all → AreLaidBranches pointer all → AreLaidBranches pointer branches
-      → ((i : ℕ) → slice_get (fields_of branches) i ≡ slice_get (fields_of all) (k + i)) → IsOfBranches (zero_branches all all) branches (zero_branches all branches)
+  zero_branches_typed : (pointer length : ℕ) (all branches : Branches) (k : ℕ) → IsLaidRecord pointer length all
+      → AreLaidBranches pointer all → AreLaidBranches pointer branches
+      → ((i : ℕ) → slice_get (fields_of branches) i ≡ slice_get (fields_of all) (k + i))
+      → IsOfBranches (zero_branches all all) branches (zero_branches all branches)
   zero_branches_typed pointer length all no_fields k record_laid all_laid laid within = tt
   zero_branches_typed pointer length all (branch field part rest) k record_laid all_laid laid within =
       let found : slice_get (fields_of all) k ≡ Some field = ap (slice_get (fields_of all)) (sym (add-zero k)) ∙ sym (within 0) in

@@ -3,7 +3,8 @@ use Rattle.std.specs.Prelude.{ℕ, List, ◌++◌, codes}
 use Rattle.evp_base.specs.declared.step.Step.{Step}
 use Rattle.evp_base.specs.Path.{path_text}
 use Rattle.evp_format.specs.declared.broken.Broken.{Broken}
-use Rattle.evp_format.specs.declared.broken.Broken.TheVariants.{ShortRecord, NegativeCount, NullList, BlockPlace, NoEnd}
+use Rattle.evp_format.specs.declared.broken.Broken.TheVariants.{ShortRecord, NegativeCount}
+use Rattle.evp_format.specs.declared.broken.Broken.TheVariants.{NullList, BlockPlace, NoEnd}
 use Rattle.evp_format.specs.Layout.{Layout}
 use Rattle.evp_format.specs.Path.{path_of}
 use Rattle.evp_format.specs.Sameness.{fault_place}

@@ -1,6 +1,8 @@
--- What a conversion between two formats answers: their clash, else what conversion by name makes, with its paths.
--- Between formats that clash nothing is converted: what `convert` computes there, where a partner of another class counts as none
--- and an element of another class as 0, null or a record without fields, is in no answer.
+-- What a conversion between two formats answers: their clash, else what conversion by name makes,
+-- with its paths.
+-- Between formats that clash nothing is converted: what `convert` computes there, where a partner
+-- of another class counts as none and an element of another class as 0, null or a record without
+-- fields, is in no answer.
 use Rattle.std.specs.Prelude.{ℕ, List, Option, Some, None}
 use Rattle.evp_base.specs.declared.step.Step.{Step}
 use Rattle.evp_format.specs.Clashing.{clash}
@@ -28,4 +30,5 @@ unless_clash None next = next tt
 
 -- the value of a record in `from`, converted into `to`, its packed size at most the limit
 abbrev pub conversion : Layout → Layout → Datum → ℕ → Answer
-conversion from to value limit = unless_clash (clash from to) (λ _. answer_of to (convert to value limit))
+conversion from to value limit =
+    unless_clash (clash from to) (λ _. answer_of to (convert to value limit))

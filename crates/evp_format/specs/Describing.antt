@@ -1,5 +1,7 @@
--- The one description of a format, as bytes. Its numbers are unsigned and big endian, whatever the described machine's order is.
-use Rattle.std.specs.Prelude.{ℕ, zero, suc, ℤ, pos, Bool, true, false, if◌then◌else◌, List, [], ◌∷◌, ◌++◌, length, codes}
+-- The one description of a format, as bytes. Its numbers are unsigned and big endian, whatever the
+-- described machine's order is.
+use Rattle.std.specs.Prelude.{ℕ, zero, suc, ℤ, pos, Bool, true, false, if◌then◌else◌, List, [], ◌∷◌}
+use Rattle.std.specs.Prelude.{◌++◌, length, codes}
 use Rattle.std.specs.Ordering.{int_eq}
 use Rattle.std.specs.List.{list_all}
 use Rattle.std.specs.Fmt.{decimal}
@@ -70,23 +72,27 @@ described_default stated field = stated_number stated field.fallback
 
 abbrev pub described_field : Bool → List RecordType → List Field → Field → List ℕ
 described_field stated types fields field =
-    described_text field.name ++ described_text (type_text types fields field) ++ described_number 4 field.size ++ described_number 4 field.offset
+    described_text field.name ++ described_text (type_text types fields field)
+    ++ described_number 4 field.size ++ described_number 4 field.offset
     ++ described_default stated field
 
 -- these fields of a type whose fields are `fields`
 abbrev pub described_fields : Bool → List RecordType → List Field → List Field → List ℕ
 described_fields stated types fields [] = []
-described_fields stated types fields (field ∷ rest) = described_field stated types fields field ++ described_fields stated types fields rest
+described_fields stated types fields (field ∷ rest) = described_field stated types fields field
+    ++ described_fields stated types fields rest
 
 abbrev pub described_type : Bool → List RecordType → RecordType → List ℕ
 described_type stated types type =
-    described_text type.name ++ described_number 4 type.length ++ described_number 2 (length type.fields)
+    described_text type.name ++ described_number 4 type.length
+    ++ described_number 2 (length type.fields)
     ++ described_fields stated types type.fields type.fields
 
 -- these types of a format whose types are `types`
 abbrev pub described_types : Bool → List RecordType → List RecordType → List ℕ
 described_types stated types [] = []
-described_types stated types (type ∷ rest) = described_type stated types type ++ described_types stated types rest
+described_types stated types (type ∷ rest) = described_type stated types type
+    ++ described_types stated types rest
 
 -- the default of each field is 0
 abbrev pub all_default_zero : List Field → Bool
@@ -94,7 +100,8 @@ all_default_zero fields = list_all (λ (field : Field). int_eq field.fallback (p
 
 -- some default isn't 0
 abbrev pub types_state_default : List RecordType → Bool
-types_state_default types = if list_all (λ (type : RecordType). all_default_zero type.fields) types then false else true
+types_state_default types = if list_all (λ (type : RecordType). all_default_zero type.fields) types
+    then false else true
 
 abbrev pub states_default : Layout → Bool
 states_default layout = types_state_default layout.types
@@ -113,5 +120,6 @@ order_number Big = 1
 abbrev pub describe : Layout → List ℕ
 describe layout =
     let stated = states_default layout in
-    magic stated ++ described_number 1 (order_number layout.order) ++ described_number 1 layout.pointer ++ described_number 2 (length layout.types)
+    magic stated ++ described_number 1 (order_number layout.order)
+    ++ described_number 1 layout.pointer ++ described_number 2 (length layout.types)
     ++ described_types stated layout.types layout.types

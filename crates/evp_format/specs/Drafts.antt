@@ -158,8 +158,8 @@ first_pair k (Some other) later = Some (k, other)
 -- and then by the second
 abbrev pub first_overlap : ℕ → ℕ → List Field → Option (ℕ × ℕ)
 first_overlap pointer k [] = None
-first_overlap pointer k (field ∷ rest) = first_pair k (overlap_with pointer field (k + 1) rest)
-    (first_overlap pointer (k + 1) rest)
+first_overlap pointer k (field ∷ rest) =
+    first_pair k (overlap_with pointer field (k + 1) rest) (first_overlap pointer (k + 1) rest)
 
 abbrev pub type_of : List ℕ → ℕ → List Field → RecordType
 type_of name length fields = record { name = name; length = length; fields = fields }
@@ -170,8 +170,8 @@ depth_behind earlier type = depth (resolved (trees earlier) type)
 
 -- no count states a default
 unfoldable pub without_count_default : ℕ → RecordType → Result RecordType LayoutFault
-without_count_default number type = refused_by (count_with_default type.fields 0 type.fields)
-    (λ k. CountDefault number k) type
+without_count_default number type =
+    refused_by (count_with_default type.fields 0 type.fields) (λ k. CountDefault number k) type
 
 -- the type nests no deeper than 16
 unfoldable pub within_nesting : List RecordType → RecordType → Result RecordType LayoutFault
@@ -181,5 +181,5 @@ within_nesting earlier type =
 
 -- no two fields have bytes in common
 unfoldable pub without_overlap : ℕ → ℕ → RecordType → Result RecordType LayoutFault
-without_overlap pointer number type = refused_by (first_overlap pointer 0 type.fields)
-    (λ pair. Overlap number pair.0 pair.1) type
+without_overlap pointer number type =
+    refused_by (first_overlap pointer 0 type.fields) (λ pair. Overlap number pair.0 pair.1) type

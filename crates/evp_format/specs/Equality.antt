@@ -56,16 +56,21 @@ shape_eq (Counted n) (Counted m) = nat_eq n m
 -- of one shape, size, offset and default
 abbrev pub place_eq : Field → Field → Bool
 place_eq field other =
-    shape_eq field.shape other.shape && (nat_eq field.size other.size && (nat_eq field.offset other.offset && int_eq field.fallback other.fallback))
+    shape_eq field.shape other.shape
+    && (nat_eq field.size other.size
+    && (nat_eq field.offset other.offset && int_eq field.fallback other.fallback))
 
 abbrev pub field_eq : Field → Field → Bool
-field_eq field other = pointwise nat_eq field.name other.name && (base_eq field.base other.base && place_eq field other)
+field_eq field other = pointwise nat_eq field.name other.name
+    && (base_eq field.base other.base && place_eq field other)
 
 abbrev pub fields_eq : List Field → List Field → Bool
 fields_eq = pointwise field_eq
 
 abbrev pub type_eq : RecordType → RecordType → Bool
-type_eq type other = pointwise nat_eq type.name other.name && (nat_eq type.length other.length && fields_eq type.fields other.fields)
+type_eq type other = pointwise nat_eq type.name other.name
+    && (nat_eq type.length other.length && fields_eq type.fields other.fields)
 
 abbrev pub layout_eq : Layout → Layout → Bool
-layout_eq layout other = order_eq layout.order other.order && (nat_eq layout.pointer other.pointer && pointwise type_eq layout.types other.types)
+layout_eq layout other = order_eq layout.order other.order
+    && (nat_eq layout.pointer other.pointer && pointwise type_eq layout.types other.types)

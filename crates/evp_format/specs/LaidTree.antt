@@ -4,7 +4,8 @@ use Rattle.evp_base.specs.Numbers.{is_size_of}
 use Rattle.evp_format.specs.declared.field.Base.{Base}
 use Rattle.evp_format.specs.declared.field.Base.TheVariants.{Number, Text, Nested}
 use Rattle.evp_format.specs.declared.record_type.RecordType.{RecordType}
-use Rattle.evp_format.specs.Tree.{Tree, tree, Branches, no_fields, branch, Part, number_part, text_part, tree_part, fields_of, length_of}
+use Rattle.evp_format.specs.Tree.{Tree, tree, Branches, no_fields, branch, Part, number_part}
+use Rattle.evp_format.specs.Tree.{text_part, tree_part, fields_of, length_of}
 use Rattle.evp_format.specs.WellLaid.{IsLaidType}
 
 -- the part is what the base says
@@ -29,12 +30,14 @@ pub record IsLaidRecord (pointer length : ℕ) (branches : Branches) : Type 0 wh
 
 abbrev mutual
   pub IsLaidTree : ℕ → Tree → Type 0
-  IsLaidTree pointer (tree length branches) = IsLaidRecord pointer length branches × AreLaidBranches pointer branches
+  IsLaidTree pointer (tree length branches) = IsLaidRecord pointer length branches
+      × AreLaidBranches pointer branches
 
   -- each field's part is what its base says, of the field's size
   pub AreLaidBranches : ℕ → Branches → Type 0
   AreLaidBranches pointer no_fields = ⊤
-  AreLaidBranches pointer (branch field part rest) = Matches field.base part × IsLaidPart pointer field.size part × AreLaidBranches pointer rest
+  AreLaidBranches pointer (branch field part rest) = Matches field.base part
+      × IsLaidPart pointer field.size part × AreLaidBranches pointer rest
 
   -- a part of this size
   pub IsLaidPart : ℕ → ℕ → Part → Type 0

@@ -14,7 +14,8 @@ use Rattle.evp_format.specs.Zero.{zero_of}
 -- the tree of an earlier type doesn't depend on later types
 abbrev pub EarlierTreesStay : Type 0
 EarlierTreesStay =
-    (types more : List RecordType) (k : ℕ) → k < length types → get_or (trees (types ++ more)) k empty_tree ≡ get_or (trees types) k empty_tree
+    (types more : List RecordType) (k : ℕ) → k < length types
+    → get_or (trees (types ++ more)) k empty_tree ≡ get_or (trees types) k empty_tree
 
 -- the zero of a well laid format is of that format
 abbrev pub ZeroIsOfFormat : Type 0
@@ -29,11 +30,13 @@ pub record IsReceivers (to : Layout) (limit : ℕ) (value : Datum) (size : ℕ) 
 -- what a value is converted to is the receiver's, for well laid formats that don't clash
 abbrev pub ConvertedIsReceivers : Type 0
 ConvertedIsReceivers =
-    (from to : Layout) (value result : Datum) (limit size : ℕ) → IsWellLaid from → IsWellLaid to → clash from to ≡ None → IsOf from value
+    (from to : Layout) (value result : Datum) (limit size : ℕ) → IsWellLaid from → IsWellLaid to
+    → clash from to ≡ None → IsOf from value
     → convert to value limit ≡ made result size → IsReceivers to limit result size
 
 -- a value converted to its own format is that value, where the limit allows its packed size
 abbrev pub ConvertedToItself : Type 0
 ConvertedToItself =
-    (layout : Layout) (value : Datum) (limit : ℕ) → IsWellLaid layout → IsOf layout value → packed_size layout value ≤ limit
+    (layout : Layout) (value : Datum) (limit : ℕ) → IsWellLaid layout → IsOf layout value
+    → packed_size layout value ≤ limit
     → convert layout value limit ≡ made value (packed_size layout value)

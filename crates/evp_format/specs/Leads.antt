@@ -1,5 +1,7 @@
--- The fields of a type that have a pointer or lead to one, in listed order: all that can fail in a record's bytes beside its length.
-use Rattle.std.specs.Prelude.{◌≡◌, ℕ, suc, Bool, true, false, ◌||◌, List, [], ◌∷◌, map, get_or, slice_get, if◌then◌else◌, Option, Some, None}
+-- The fields of a type that have a pointer or lead to one, in listed order: all that can fail in a
+-- record's bytes beside its length.
+use Rattle.std.specs.Prelude.{◌≡◌, ℕ, suc, Bool, true, false, ◌||◌, List, [], ◌∷◌, map, get_or}
+use Rattle.std.specs.Prelude.{slice_get, if◌then◌else◌, Option, Some, None}
 use Rattle.evp_base.specs.declared.kind.Kind.{Kind}
 use Rattle.evp_base.specs.declared.kind.Kind.TheVariants as kind
 use Rattle.evp_format.specs.declared.field.Base.{Base}
@@ -16,7 +18,8 @@ use Rattle.evp_format.specs.declared.lead.Run.TheVariants as run
 use Rattle.evp_format.specs.declared.record_type.RecordType.{RecordType}
 use Rattle.evp_format.specs.Class.{type_fields}
 use Rattle.evp_format.specs.Layout.{Layout}
-use Rattle.evp_format.specs.Tree.{Tree, tree, Branches, no_fields, branch, Part, number_part, text_part, tree_part, empty_tree, trees}
+use Rattle.evp_format.specs.Tree.{Tree, tree, Branches, no_fields, branch, Part, number_part}
+use Rattle.evp_format.specs.Tree.{text_part, tree_part, empty_tree, trees}
 use Rattle.evp_format.specs.WellLaid.{IsWellLaid, HasShape}
 
 abbrev pub is_counted : Shape → Bool
@@ -31,7 +34,8 @@ abbrev mutual
 
   pub have_pointer : Branches → Bool
   have_pointer no_fields = false
-  have_pointer (branch field part rest) = is_counted field.shape || (part_has_pointer part || have_pointer rest)
+  have_pointer (branch field part rest) = is_counted field.shape
+      || (part_has_pointer part || have_pointer rest)
 
   pub part_has_pointer : Part → Bool
   part_has_pointer (number_part kind) = false
@@ -42,7 +46,8 @@ abbrev mutual
 abbrev pub inside_of : (ℕ → Bool) → Base → Inside
 inside_of points (Number kind) = inside.Plain
 inside_of points Text = inside.Text
-inside_of points (Nested type_number) = if points type_number then inside.Record type_number else inside.Plain
+inside_of points (Nested type_number) = if points type_number then inside.Record type_number
+    else inside.Plain
 
 abbrev pub kind_of : Base → Kind
 kind_of (Number kind) = kind
@@ -51,7 +56,11 @@ kind_of (Nested type_number) = kind.Unsigned
 
 abbrev pub count_from : Option Field → Count
 count_from None = record { offset = 0; size = 0; kind = kind.Unsigned }
-count_from (Some field) = record { offset = field.offset; size = field.size; kind = kind_of field.base }
+count_from (Some field) = record {
+  offset = field.offset;
+  size = field.size;
+  kind = kind_of field.base;
+}
 
 -- the count field of this number
 abbrev pub count_in : List Field → ℕ → Count
@@ -74,11 +83,18 @@ leads_by (Fixed n) (inside.Record type_number) = true
 
 -- field k of a type with the fields `all`, as a lead
 abbrev pub lead_from : (ℕ → Bool) → List Field → ℕ → Field → Lead
-lead_from points all k field = record { number = k; offset = field.offset; size = field.size; run = run_in all field.shape; inside = inside_of points field.base }
+lead_from points all k field = record {
+  number = k;
+  offset = field.offset;
+  size = field.size;
+  run = run_in all field.shape;
+  inside = inside_of points field.base;
+}
 
 -- field k where it is a lead
 abbrev pub lead_in : (ℕ → Bool) → List Field → ℕ → Field → Option Lead
-lead_in points all k field = if leads_by field.shape (inside_of points field.base) then Some (lead_from points all k field) else None
+lead_in points all k field = if leads_by field.shape (inside_of points field.base)
+    then Some (lead_from points all k field) else None
 
 abbrev pub with_lead : Option Lead → List Lead → List Lead
 with_lead None leads = leads
@@ -87,7 +103,8 @@ with_lead (Some lead) leads = lead ∷ leads
 -- the leads among these fields, from number k on, of a type with the fields `all`
 abbrev pub leads_in : (ℕ → Bool) → List Field → List Field → ℕ → List Lead
 leads_in points all [] k = []
-leads_in points all (field ∷ fields) k = with_lead (lead_in points all k field) (leads_in points all fields (suc k))
+leads_in points all (field ∷ fields) k =
+    with_lead (lead_in points all k field) (leads_in points all fields (suc k))
 
 -- whether the type of this number has a pointer
 abbrev pub points_in : List RecordType → ℕ → Bool
@@ -114,7 +131,8 @@ has_lead all type_number = is_led (get_or all type_number [])
 
 -- each counted array has a count among these fields
 abbrev pub HaveCounts : List Field → Type 0
-HaveCounts fields = (k : ℕ) (field : Field) → slice_get fields k ≡ Some field → HasShape fields field.shape
+HaveCounts fields = (k : ℕ) (field : Field) → slice_get fields k ≡ Some field
+    → HasShape fields field.shape
 
 -- the types of a well laid format
 pub record AreLaidTypes (types : List RecordType) : Type 0 where

@@ -27,6 +27,8 @@ pub mod Text
 pub mod Tree
 pub mod TypeText
 pub mod Typed
+pub mod ValueEqualities
+pub mod ValueEquality
 pub mod ValueView
 pub mod ValueText
 pub mod Viewing

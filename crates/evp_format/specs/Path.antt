@@ -31,7 +31,8 @@ path_in part (At k ∷ place) = entered (field_in part k) (λ inside. path_in in
 -- the field of this number of the type of this number
 abbrev pub field_reached : List RecordType → Option ℕ → ℕ → Option Field
 field_reached types None k = None
-field_reached types (Some type_number) k = option_and_then (λ (type : RecordType). slice_get type.fields k) (slice_get types type_number)
+field_reached types (Some type_number) k =
+    option_and_then (λ (type : RecordType). slice_get type.fields k) (slice_get types type_number)
 
 -- the type of the record that a base names
 abbrev pub nested_of : Base → Option ℕ

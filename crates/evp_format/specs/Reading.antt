@@ -58,14 +58,14 @@ field_name_at type before bytes at = tested (text_at bytes at) (new_field_name t
 -- a type text: what it says
 unfoldable pub field_type_at : List RecordType → ℕ → List ℕ → ℕ
     → Result ((Base × DraftShape) × ℕ) LayoutFault
-field_type_at earlier field bytes at = tested (text_at bytes at)
-    (type_text_of earlier (length earlier) field)
+field_type_at earlier field bytes at =
+    tested (text_at bytes at) (type_text_of earlier (length earlier) field)
 
 -- a size that the base may have
 unfoldable pub field_size_at : ℕ → List RecordType → ℕ → Base → List ℕ → ℕ
     → Result (ℕ × ℕ) LayoutFault
-field_size_at pointer earlier field base bytes at = tested (number_at 4 bytes at)
-    (allowed_size pointer earlier field base)
+field_size_at pointer earlier field base bytes at =
+    tested (number_at 4 bytes at) (allowed_size pointer earlier field base)
 
 -- an offset from which the extent ends within the type's length
 unfoldable pub field_offset_at : ℕ → ℕ → ℕ → ℕ → List ℕ → ℕ → Result (ℕ × ℕ) LayoutFault
@@ -76,8 +76,8 @@ field_offset_at type field taken room bytes at = do
 -- a default that the field may have, where defaults are stated, else 0
 unfoldable pub default_at : Bool → ℕ → DraftField → ℕ → List ℕ → ℕ → Result (ℤ × ℕ) LayoutFault
 default_at false type field number bytes at = Ok (pos 0, at)
-default_at true type field number bytes at = tested (signed_at bytes at)
-    (allowed_default type number field)
+default_at true type field number bytes at =
+    tested (signed_at bytes at) (allowed_default type number field)
 
 -- a field of the type behind `earlier` that has `room` bytes, behind the fields `before`
 unfoldable pub field_at : Bool → ℕ → List RecordType → ℕ → List DraftField → List ℕ → ℕ
@@ -86,8 +86,10 @@ field_at stated pointer earlier room before bytes at = do
   name ← field_name_at (length earlier) before bytes at
   said ← field_type_at earlier (length before) bytes name.1
   size ← field_size_at pointer earlier (length before) said.0.0 bytes said.1
-  offset ← field_offset_at (length earlier) (length before) (draft_extent pointer said.0.1 size.0) room bytes size.1
-  fallback ← default_at stated (length earlier) (draft_of name.0 said.0 size.0 offset.0 (pos 0)) (length before) bytes offset.1
+  offset ← field_offset_at (length earlier) (length before) (draft_extent pointer said.0.1 size.0)
+      room bytes size.1
+  fallback ← default_at stated (length earlier) (draft_of name.0 said.0 size.0 offset.0 (pos 0))
+      (length before) bytes offset.1
   Ok (draft_of name.0 said.0 size.0 offset.0 fallback.0, fallback.1)
 
 -- so many more fields

@@ -2,7 +2,8 @@
 use Rattle.std.specs.Prelude.{ℕ, Bool, false, ◌&&◌, ◌==◌, nat_eq, List, []}
 use Rattle.std.specs.Cmp.Lexicographic.{pointwise}
 use Rattle.evp_format.specs.declared.broken.Broken.{Broken}
-use Rattle.evp_format.specs.declared.broken.Broken.TheVariants.{ShortRecord, NegativeCount, NullList, BlockPlace, NoEnd}
+use Rattle.evp_format.specs.declared.broken.Broken.TheVariants.{ShortRecord, NegativeCount}
+use Rattle.evp_format.specs.declared.broken.Broken.TheVariants.{NullList, BlockPlace, NoEnd}
 use Rattle.evp_format.specs.declared.place.PlaceStep.{PlaceStep}
 use Rattle.evp_format.specs.declared.place.PlaceStep.TheVariants.{At, Nth}
 
@@ -32,4 +33,5 @@ fault_place (BlockPlace place) = place
 fault_place (NoEnd place) = place
 
 abbrev pub broken_eq : Broken → Broken → Bool
-broken_eq fault other = nat_eq (fault_kind fault) (fault_kind other) && steps_eq (fault_place fault) (fault_place other)
+broken_eq fault other = nat_eq (fault_kind fault) (fault_kind other)
+    && steps_eq (fault_place fault) (fault_place other)

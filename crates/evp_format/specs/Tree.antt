@@ -1,6 +1,8 @@
--- A format with its nested types resolved: each record type is a tree, whose fields are numbers, texts, records or arrays of these.
+-- A format with its nested types resolved: each record type is a tree, whose fields are numbers,
+-- texts, records or arrays of these.
 -- A nested type is always an earlier one, so the trees are made from the first type to the last.
-use Rattle.std.specs.Prelude.{ℕ, zero, suc, ◌-◌, List, [], ◌∷◌, ◌++◌, length, get_or, Option, Some, None}
+use Rattle.std.specs.Prelude.{ℕ, zero, suc, ◌-◌, List, [], ◌∷◌, ◌++◌, length, get_or, Option, Some}
+use Rattle.std.specs.Prelude.{None}
 use Rattle.evp_base.specs.declared.kind.Kind.{Kind}
 use Rattle.evp_format.specs.declared.field.Field.{Field}
 use Rattle.evp_format.specs.declared.field.Base.{Base}
@@ -36,7 +38,8 @@ part_of earlier (Nested type_number) = tree_part (get_or earlier type_number emp
 
 abbrev pub branches_of : List Tree → List Field → Branches
 branches_of earlier [] = no_fields
-branches_of earlier (field ∷ fields) = branch field (part_of earlier field.base) (branches_of earlier fields)
+branches_of earlier (field ∷ fields) =
+    branch field (part_of earlier field.base) (branches_of earlier fields)
 
 -- the tree of a type, where the trees of the earlier types are these
 abbrev pub resolved : List Tree → RecordType → Tree

@@ -1,12 +1,15 @@
--- The values of a type: a record with the type's fields as listed, each number in its range, each list of its length.
+-- The values of a type: a record with the type's fields as listed, each number in its range, each
+-- list of its length.
 use Rattle.std.specs.Prelude.{◌≡◌, ◌<◌, ℕ, ℤ, pos, All, Option, Some, None, ⊤}
 use Rattle.evp_base.specs.Numbers.{InRange}
 use Rattle.evp_format.specs.declared.field.Shape.{Shape}
 use Rattle.evp_format.specs.declared.field.Shape.TheVariants.{One, Fixed, Counted}
-use Rattle.evp_format.specs.Datum.{Datum, num, null, text, list, rec, Elements, empty_list, element, Entries, empty_record, entry, entry_at, count_of}
+use Rattle.evp_format.specs.Datum.{Datum, num, null, text, list, rec, Elements, empty_list, element}
+use Rattle.evp_format.specs.Datum.{Entries, empty_record, entry, entry_at, count_of}
 use Rattle.evp_format.specs.Layout.{Layout}
 use Rattle.evp_format.specs.Text.{HasNoZero}
-use Rattle.evp_format.specs.Tree.{Tree, tree, Branches, no_fields, branch, Part, number_part, text_part, tree_part, root_of}
+use Rattle.evp_format.specs.Tree.{Tree, tree, Branches, no_fields, branch, Part, number_part}
+use Rattle.evp_format.specs.Tree.{text_part, tree_part, root_of}
 
 -- each element is of a type
 abbrev pub EachElement : (Datum → Type 0) → Elements → Type 0
@@ -69,7 +72,8 @@ abbrev mutual
   IsOfBranches all no_fields (entry name datum rest) = ⊥
   IsOfBranches all (branch field part others) empty_record = ⊥
   IsOfBranches all (branch field part others) (entry name datum rest) =
-      (name ≡ field.name) × IsShaped all field.shape (λ value. IsOfPart part field.size value) datum × IsOfBranches all others rest
+      (name ≡ field.name) × IsShaped all field.shape (λ value. IsOfPart part field.size value) datum
+      × IsOfBranches all others rest
 
   -- a part of this size
   pub IsOfPart : Part → ℕ → Datum → Type 0

@@ -1,8 +1,10 @@
--- A value as text: numbers in decimal, texts in double quotes, lists in brackets, records in braces; no blanks.
+-- A value as text: numbers in decimal, texts in double quotes, lists in brackets, records in
+-- braces; no blanks.
 use Rattle.std.specs.Prelude.{ℕ, List, [], ◌++◌, codes}
 use Rattle.std.specs.Fmt.{signed_decimal}
 use Rattle.evp_base.specs.Quoted.{quoted}
-use Rattle.evp_format.specs.Datum.{Datum, num, null, text, list, rec, Elements, empty_list, element, Entries, empty_record, entry}
+use Rattle.evp_format.specs.Datum.{Datum, num, null, text, list, rec, Elements, empty_list, element}
+use Rattle.evp_format.specs.Datum.{Entries, empty_record, entry}
 
 abbrev mutual
   pub value_text : Datum → List ℕ
@@ -24,8 +26,10 @@ abbrev mutual
   -- the fields as `name=value`, a comma between two
   pub entries_text : Entries → List ℕ
   entries_text empty_record = []
-  entries_text (entry name datum rest) = name ++ codes "=" ++ value_text datum ++ more_entries_text rest
+  entries_text (entry name datum rest) = name ++ codes "=" ++ value_text datum
+      ++ more_entries_text rest
 
   pub more_entries_text : Entries → List ℕ
   more_entries_text empty_record = []
-  more_entries_text (entry name datum rest) = codes "," ++ name ++ codes "=" ++ value_text datum ++ more_entries_text rest
+  more_entries_text (entry name datum rest) = codes "," ++ name ++ codes "=" ++ value_text datum
+      ++ more_entries_text rest

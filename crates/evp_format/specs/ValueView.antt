@@ -1,6 +1,7 @@
 -- What a `Value` of the code is: the number, nothing, text, list or record that it stands for.
 use Rattle.std.specs.Prelude.{ℕ, List, [], ◌∷◌, map}
-use Rattle.evp_format.specs.Datum.{Datum, num, null, text, list, rec, Elements, empty_list, element, Entries, empty_record, entry}
+use Rattle.evp_format.specs.Datum.{Datum, num, null, text, list, rec, Elements, empty_list, element}
+use Rattle.evp_format.specs.Datum.{Entries, empty_record, entry}
 use Rattle.evp_format.specs.declared.value.Items.{Items, fold-Items}
 use Rattle.evp_format.specs.declared.value.Members.{Members, fold-Members}
 use Rattle.evp_format.specs.declared.value.Value.{Value, fold-Value}

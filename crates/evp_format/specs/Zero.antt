@@ -3,9 +3,11 @@ use Rattle.std.specs.Prelude.{ℕ, ℤ, pos, negsuc, Option, Some, None}
 use Rattle.evp_format.specs.declared.field.Field.{Field}
 use Rattle.evp_format.specs.declared.field.Shape.{Shape}
 use Rattle.evp_format.specs.declared.field.Shape.TheVariants.{One, Fixed, Counted}
-use Rattle.evp_format.specs.Datum.{Datum, num, null, list, rec, copies, Entries, empty_record, entry}
+use Rattle.evp_format.specs.Datum.{Datum, num, null, list, rec, copies, Entries, empty_record}
+use Rattle.evp_format.specs.Datum.{entry}
 use Rattle.evp_format.specs.Layout.{Layout}
-use Rattle.evp_format.specs.Tree.{Tree, tree, Branches, no_fields, branch, Part, number_part, text_part, tree_part, branch_at, root_of}
+use Rattle.evp_format.specs.Tree.{Tree, tree, Branches, no_fields, branch, Part, number_part}
+use Rattle.evp_format.specs.Tree.{text_part, tree_part, branch_at, root_of}
 
 -- a count as a number of elements
 abbrev pub as_count : ℤ → ℕ
@@ -27,7 +29,8 @@ zero_single field (tree_part nested) zero_element = zero_element
 abbrev pub zero_shaped : Branches → Field → Shape → Part → Datum → Datum
 zero_shaped all field One part zero_element = zero_single field part zero_element
 zero_shaped all field (Fixed n) part zero_element = list (copies n zero_element)
-zero_shaped all field (Counted c) part zero_element = list (copies (as_count (default_of (branch_at all c))) zero_element)
+zero_shaped all field (Counted c) part zero_element =
+    list (copies (as_count (default_of (branch_at all c))) zero_element)
 
 abbrev mutual
   -- a record: each single number field has its default, each other field its zero
@@ -37,7 +40,9 @@ abbrev mutual
   -- the fields of a record whose fields are `all`
   pub zero_branches : Branches → Branches → Entries
   zero_branches all no_fields = empty_record
-  zero_branches all (branch field part rest) = entry field.name (zero_shaped all field field.shape part (zero_part part)) (zero_branches all rest)
+  zero_branches all (branch field part rest) =
+      entry field.name (zero_shaped all field field.shape part (zero_part part))
+      (zero_branches all rest)
 
   -- an element: 0, null, or a record of defaults
   pub zero_part : Part → Datum

@@ -18,7 +18,8 @@ pub enum Broken {
     NegativeCount(Place),
     /// The array's count is above 0 and its pointer is null.
     NullList(Place),
-    /// The block starts before the mark, or ends past the bytes; a string's block starts at or past their end.
+    /// The block starts before the mark, or ends past the bytes; a string's block starts at or past
+    /// their end.
     BlockPlace(Place),
     /// No zero byte from the string's start to the end of the bytes.
     NoEnd(Place),

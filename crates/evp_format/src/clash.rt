@@ -1,8 +1,10 @@
 //! Where two formats clash.
 
-ghost use Rattle.std.specs.Prelude.{◌≡◌, ◌<◌, ◌∷◌, ℕ, List, IfOk, IfSome, Some, option_map, slice_get, length, take};
+ghost use Rattle.std.specs.Prelude.{◌≡◌, ◌<◌, ◌∷◌, ℕ, List, IfOk, IfSome, Some, option_map};
+ghost use Rattle.std.specs.Prelude.{slice_get, length, take};
 ghost use Rattle.evp_base.specs.declared.step.Step.{Step};
-ghost use Rattle.evp_format.specs.Clashing.{clash, clash_trees, clash_field, branch_named, is_array, same_class, same_part};
+ghost use Rattle.evp_format.specs.Class.{class_of, content_of, same_class, same_content};
+ghost use Rattle.evp_format.specs.Clashing.{clash, clash_trees, clash_field, branch_named};
 ghost use Rattle.evp_format.specs.Tree.{Tree, tree_of, trees, part_of, branches_of};
 ghost use Rattle.evp_format.specs.WellLaid.{HasBaseSize};
 
@@ -58,9 +60,11 @@ fn clash_of_field(
     field: &Field,
 ) -> Result<Option<FieldPath>, Memory>
     requires sender_there { sender < length from.now.types }
-    requires sized { HasBaseSize to.now.pointer (take receiver to.now.types) field.now.base field.now.size }
+    requires sized { HasBaseSize to.now.pointer (take receiver to.now.types) field.now.base
+        field.now.size }
     ensures { IfOk result
-        (λ found. found ≡ clash_field (tree_of from.now sender) field.now (part_of (trees to.now.types) field.now.base)) }
+        (λ found. found ≡ clash_field (tree_of from.now sender) field.now
+        (part_of (trees to.now.types) field.now.base)) }
 {
     let partners = from.types()[sender].fields.as_slice();
     let Some(partner) = field_named(partners, field.name) else {
@@ -106,25 +110,20 @@ fn field_named(fields: &[Field], name: Name) -> Option<&Field>
 
 // Whether the two are of one class: numbers, texts, records, or arrays of one of these.
 fn same_class(field: &Field, other: &Field) -> bool
-    ensures { (earlier others : List Tree) → result
-        ≡ same_class field.now (part_of earlier field.now.base) other.now (part_of others other.now.base) }
+    ensures { result ≡ same_class (class_of field.now) (class_of other.now) }
 {
-    is_array(field.shape) == is_array(other.shape) && same_content(field.base, other.base)
-}
-
-// Whether the field is an array.
-fn is_array(shape: Shape) -> bool
-    ensures { result ≡ is_array shape }
-{
-    match shape {
-        Shape::One => false,
-        Shape::Fixed(_) | Shape::Counted(_) => true,
+    match (field.shape, other.shape) {
+        (Shape::One, Shape::One)
+        | (Shape::Fixed(_) | Shape::Counted(_), Shape::Fixed(_) | Shape::Counted(_)) => {
+            same_content(field.base, other.base)
+        }
+        _ => false,
     }
 }
 
 // Whether both are numbers, texts or records.
 fn same_content(base: Base, other: Base) -> bool
-    ensures { (earlier others : List Tree) → result ≡ same_part (part_of earlier base) (part_of others other) }
+    ensures { result ≡ same_content (content_of base) (content_of other) }
 {
     match (base, other) {
         (Base::Number(_), Base::Number(_)) => true,

@@ -23,7 +23,7 @@ pub struct Format {
 }
 
 impl Model for Format {
-    ghost use Rattle.evp_format.specs.Layout.{Layout};
+    ghost use Rattle.evp_format.specs.Layout.{Layout, layout_with};
 
     ghost Value = { Layout };
 
@@ -33,7 +33,7 @@ impl Model for Format {
     ghost use Rattle.evp_format.specs.Leads.{all_leads};
     ghost use Rattle.evp_format.specs.WellLaid.{IsWellLaid};
 
-    ghost invariant = { λ f. IsWellLaid (record { order = f.order; pointer = f.pointer; types = f.types.items })
+    ghost invariant = { λ f. IsWellLaid (layout_with f.order f.pointer f.types.items)
         × (f.leads.items ≡ all_leads f.types.items) };
 }
 

@@ -1,6 +1,7 @@
 //! Laws of formats and their values, which hold for all of them. The functions do nothing.
 
-ghost use Rattle.evp_format.specs.Laws.{ConvertedIsReceivers, ConvertedToItself, EarlierTreesStay, ZeroIsOfFormat};
+ghost use Rattle.evp_format.specs.Laws.{ConvertedIsReceivers, ConvertedToItself, EarlierTreesStay};
+ghost use Rattle.evp_format.specs.Laws.{ZeroIsOfFormat};
 
 /// What a type is, its nested types resolved, doesn't depend on the types behind it.
 pub fn earlier_trees_stay()

@@ -132,7 +132,8 @@ fn at_field<W: fmt::Write>(
     type_number: u16,
     field: u16,
 ) -> fmt::Result
-    ensures { WritesOnOk W.write_str_gives f.old result (at_field what.now type_number field) f.new }
+    ensures { WritesOnOk W.write_str_gives f.old result
+        (at_field what.now type_number field) f.new }
 {
     write!(f, "{what}, type {type_number} field {field}")
 }

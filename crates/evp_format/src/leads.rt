@@ -1,6 +1,7 @@
 //! The fields of a type that have or lead to a pointer, found once for each format.
 ghost use Rattle.std.specs.Prelude.{◌≡◌, ◌<◌, ◌^◌, IfOk, length};
-ghost use Rattle.evp_format.specs.Leads.{AreLaidTypes, HaveCounts, lead_in, leads_in, all_leads, run_in, inside_of, count_in, has_lead};
+ghost use Rattle.evp_format.specs.Leads.{AreLaidTypes, HaveCounts, lead_in, leads_in, all_leads};
+ghost use Rattle.evp_format.specs.Leads.{run_in, inside_of, count_in, has_lead};
 ghost use Rattle.evp_format.specs.WellLaid.{HasShape, IsCountField};
 
 use crate::{Base, Count, Field, Inside, Lead, RecordType, Run, Shape};
@@ -35,7 +36,8 @@ impl Leads {
     fn of_fields(alloc: Global, earlier: &[Leads], fields: &[Field]) -> Result<Leads, Memory>
         requires few { length fields.now < 2 ^ 16 }
         requires counts { HaveCounts fields.now }
-        ensures { IfOk result (λ leads. leads ≡ leads_in (has_lead earlier.now) fields.now fields.now 0) }
+        ensures { IfOk result (λ leads. leads
+            ≡ leads_in (has_lead earlier.now) fields.now fields.now 0) }
     {
         let mut list = Vec::new(alloc);
         for (number, field) in fields.iter().enumerate() {

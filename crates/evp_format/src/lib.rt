@@ -19,6 +19,7 @@ mod record_type;
 mod type_text;
 mod types_so_far;
 mod value;
+mod value_equality;
 mod whole_type;
 
 pub use broken::Broken;

@@ -207,9 +207,9 @@ impl TypesSoFar {
     }
 
     /// The next type, of this many bytes, with these fields: `CountField` at the first array whose
-    /// count isn't a single `integer` or `unsigned integer` field of the type, `CountDefault` at the
-    /// first count whose default isn't 0, `Limit(Nesting, n)` where the type nests deeper than 16.
-    /// `Memory` where the fields could not be stored.
+    /// count isn't a single `integer` or `unsigned integer` field of the type, `CountDefault` at
+    /// the first count whose default isn't 0, `Limit(Nesting, n)` where the type nests deeper than
+    /// 16. `Memory` where the fields could not be stored.
     #[tactic(auto, unfolding(crate::specs::Parts::ended_type))]
     pub fn end_fields(
         &self,
@@ -219,7 +219,8 @@ impl TypesSoFar {
         drafts: &[DraftField],
     ) -> Result<RecordType, LayoutFault>
         requires { length drafts.now ≤ 1024 }
-        ensures value { Gives (λ made. made) result (ended_type self.now.types name room drafts.now) }
+        ensures value { Gives (λ made. made) result
+            (ended_type self.now.types name room drafts.now) }
         ensures number { IfOk result (λ made. length made.fields ≡ length drafts.now) }
     {
         let number = self.number();

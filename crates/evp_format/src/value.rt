@@ -91,3 +91,40 @@ pub enum Value {
     /// A record.
     Rec(Members),
 }
+
+impl Value {
+    ghost use Rattle.std.specs.Prelude.{◌≡◌, Some, option_map};
+    ghost use Rattle.evp_format.specs.Datum.{as_number, elements_of, entries_of};
+    ghost use Rattle.evp_format.specs.ValueView.{datum_of, elements_of_values, entries_of_pairs};
+
+    /// The number, or 0 where the value is none. Takes no memory.
+    pub fn number(&self) -> i128
+        ensures { result ≡ as_number (datum_of self.now) }
+    {
+        match self {
+            Value::Num(number) => *number,
+            _ => 0,
+        }
+    }
+
+    /// The elements of a list, or `None` where the value is none. Takes no memory.
+    pub fn elements(&self) -> Option<&[Value]>
+        ensures { option_map (λ values. elements_of_values values.now) result
+            ≡ elements_of (Some (datum_of self.now)) }
+    {
+        match self {
+            Value::List(items) => Some(items.values.as_slice()),
+            _ => None,
+        }
+    }
+
+    /// The fields of a record, or none where the value is none. Takes no memory.
+    pub fn entries(&self) -> &[(Name, Value)]
+        ensures { entries_of_pairs result.now ≡ entries_of (Some (datum_of self.now)) }
+    {
+        match self {
+            Value::Rec(members) => members.pairs.as_slice(),
+            _ => &[],
+        }
+    }
+}

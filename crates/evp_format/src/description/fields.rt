@@ -120,7 +120,8 @@ fn field_size_at(
     types: &TypesSoFar,
 ) -> Result<(u32, u32), LayoutFault>
     requires near { at < 2 ^ 31 }
-    ensures value { result ≡ field_size_at types.now.pointer types.now.types field base bytes.now at }
+    ensures value { result
+        ≡ field_size_at types.now.pointer types.now.types field base bytes.now at }
     ensures allowed { IfOk result (λ read. IsTrue
         (is_base_size types.now.pointer types.now.types base read.0)) }
     ensures behind { IfOk result (λ read. read.1 ≡ at + 4) }

@@ -54,7 +54,8 @@ fn type_at(
     ensures value { Gives (λ read. read) result
         (type_at stated types.now.pointer types.now.types bytes.now at) }
     ensures behind { IfOk result (λ read. read.1 ≤ at + 262 + 536 * length read.0.fields) }
-    ensures fields { IfOk result (λ read. all_fields types.now.types + length read.0.fields ≤ 4096) }
+    ensures fields { IfOk result
+        (λ read. all_fields types.now.types + length read.0.fields ≤ 4096) }
 {
     let (name, at) = type_name_at(bytes, at, types)?;
     let (room, at) = type_length_at(bytes, at)?;

@@ -13,4 +13,5 @@ decreases-clash_of_field l = 2 * l.receiver
 -- the fields so far don't clash
 abbrev pub invariant-clash_of_types-loop-field : goal.invariant-clash_of_types-loop-field
 invariant-clash_of_types-loop-field l =
-    clash_from (tree_of l.from l.sender) (branches_of (trees l.to.types) (drop l.field-index l.fields)) ≡ clash_trees (tree_of l.from l.sender) (tree_of l.to l.receiver)
+    clash_from (tree_of l.from l.sender) (branches_of (trees l.to.types) (drop l.field-index l.fields))
+    ≡ clash_trees (tree_of l.from l.sender) (tree_of l.to l.receiver)

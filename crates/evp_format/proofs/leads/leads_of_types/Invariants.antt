@@ -4,4 +4,5 @@ use Rattle.evp_format.specs.Leads.{type_leads}
 use Rattle.evp_format.proofs.leads.leads_of_types.Given as goal
 
 abbrev pub invariant-loop-record_type : goal.invariant-loop-record_type
-invariant-loop-record_type l = l.leads.items ≡ map (λ (type : RecordType). type_leads l.types type.fields) (take l.record_type-index l.types)
+invariant-loop-record_type l = l.leads.items ≡ map (λ (type : RecordType). type_leads l.types type.fields)
+    (take l.record_type-index l.types)

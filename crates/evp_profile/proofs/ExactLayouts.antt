@@ -12,7 +12,7 @@ use Rattle.evp_format.specs.declared.record_type.RecordType.{RecordType}
 use Rattle.evp_format.specs.Layout.{Layout, layout_with}
 use Rattle.evp_format.specs.SoFar.{MayFollow}
 use Rattle.evp_format.specs.Steps.{◌>>=◌}
-use Rattle.evp_format.proofs.FormatsAgain.{Splits, are_earlier, may_follow}
+use Rattle.evp_format.proofs.TypesAgain.{Splits, are_earlier, may_follow}
 use Rattle.evp_format.proofs.StatedFields.{slice_get-seam}
 use Rattle.evp_format.proofs.WellLaidTypes.{bind_ok, passed, ok_is, done}
 use Rattle.evp_profile.specs.declared.profile.Profile.{Profile}

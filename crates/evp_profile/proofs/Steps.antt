@@ -23,7 +23,8 @@ pub field_goes_on : (pointer : ℕ) (earlier : List RecordType) (declared : List
     → stated_fields pointer earlier (before ++ draft ∷ []) (fields_declared (drop (k + 1) declared)) ≡ total
 unfolding stated_fields
 field_goes_on pointer earlier declared k field draft before total below is stated so_far =
-    let step : fields_left pointer earlier before (field ∷ drop (k + 1) declared) ≡ fields_left pointer earlier (before ++ draft ∷ []) (drop (k + 1) declared) = rw (← stated) refl in
+    let step : fields_left pointer earlier before (field ∷ drop (k + 1) declared)
+    ≡ fields_left pointer earlier (before ++ draft ∷ []) (drop (k + 1) declared) = rw (← stated) refl in
     sym step ∙ sym (next_left (fields_left pointer earlier before) declared k field below is) ∙ so_far
 
 pub field_stops : (pointer : ℕ) (earlier : List RecordType) (declared : List Decl) (k : ℕ) (field : Decl) (fault : LayoutFault)

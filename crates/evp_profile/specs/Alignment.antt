@@ -27,7 +27,8 @@ abbrev mutual
   -- the greatest of the fields'
   pub branches_alignment : Profile → Branches → ℕ
   branches_alignment profile no_fields = 1
-  branches_alignment profile (branch field part rest) = max
+  branches_alignment profile (branch field part rest) =
+      max
       (shape_alignment profile field.shape (part_alignment profile field.size part))
       (branches_alignment profile rest)
 
@@ -40,7 +41,8 @@ abbrev mutual
 -- a field's, where the trees of the earlier types are these
 abbrev pub field_alignment : Profile → List Tree → Field → ℕ
 field_alignment profile earlier field =
-    shape_alignment profile field.shape (part_alignment profile field.size (part_of earlier field.base))
+    shape_alignment profile field.shape
+    (part_alignment profile field.size (part_of earlier field.base))
 
 -- the greatest of these fields'
 abbrev pub fields_alignment : Profile → List Tree → List Field → ℕ

@@ -29,7 +29,8 @@ end_of_fields profile earlier end (field ∷ fields) =
 -- the end of the last field, rounded up to the greatest alignment
 abbrev pub length_of_fields : Profile → List Tree → List Field → ℕ
 length_of_fields profile earlier fields =
-    next_multiple_of (end_of_fields profile earlier 0 fields) (fields_alignment profile earlier fields)
+    next_multiple_of (end_of_fields profile earlier 0 fields)
+    (fields_alignment profile earlier fields)
 
 abbrev pub field_at : ℕ → Field → Field
 field_at offset field = record field { offset = offset }

@@ -29,7 +29,8 @@ pub(crate) fn fields_alignment(earlier: &LaidTypes, fields: &[Field]) -> u8
 
 /// A field's alignment.
 pub(crate) fn field_alignment(earlier: &LaidTypes, field: &Field) -> u8
-    ensures value { result ≡ field_alignment earlier.now.profile (trees earlier.now.types) field.now }
+    ensures value { result
+        ≡ field_alignment earlier.now.profile (trees earlier.now.types) field.now }
     ensures positive { IsTrue (is_number_size field.now.base field.now.size) → 0 < result }
 {
     match field.shape {

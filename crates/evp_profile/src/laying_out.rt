@@ -35,7 +35,8 @@ use std::alloc::Global;
 pub fn lay_out(alloc: Global, profile: Profile, types: &[TypeDecl]) -> Result<Format, LayoutFault>
     requires types { length types.now < 2 ^ 32 }
     requires fields { All (λ declared. length declared.fields.items < 2 ^ 32) types.now }
-    ensures value { Gives (λ format. format) result (by_profile profile (types_declared types.now)) }
+    ensures value { Gives (λ format. format) result
+        (by_profile profile (types_declared types.now)) }
     ensures as_in_c { IfOk result (IsCLayout profile) }
 {
     let count = types.len();

@@ -181,8 +181,9 @@ const ORDER: Struct = (
     ],
 );
 
-// Structs behind those that they hold, and the layout of the last, profile by profile, as C compilers
-// make it: gcc 12.2 for x86-64, i386, s390x and 32-bit PowerPC, measured in compiled objects.
+// Structs behind those that they hold, and the layout of the last, profile by profile, as C
+// compilers make it: gcc 12.2 for x86-64, i386, s390x and 32-bit PowerPC, measured in compiled
+// objects.
 const LAYOUTS: [(&[Struct], [Layout; 4]); 14] = [
     (
         &[CHAR_I64],

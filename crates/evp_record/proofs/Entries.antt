@@ -1,7 +1,8 @@
 -- The entries of a record and the elements of a list, in two parts: those in front of a place, and those from there on.
 use Rattle.std.proofs.Common.{◌≡◌, ℕ, zero, suc, ◌+◌, List, [], ◌∷◌, ◌++◌, map, Option, Some, None, refl, sym, ap, ◌∙◌, add-one}
 use Rattle.std.proofs.lemmas.List.{map-append}
-use Rattle.evp_format.specs.Datum.{Datum, num, null, text, list, rec, Elements, empty_list, element, Entries, empty_record, entry, entry_at, count_of}
+use Rattle.evp_format.specs.Datum.{Datum, num, null, text, list, rec, Elements, empty_list, element, Entries, empty_record, entry, entry_at}
+use Rattle.evp_format.specs.Datum.{count_of}
 use Rattle.evp_format.specs.ValueView.{datum_of, elements_from, entries_from, elements_of_values, entries_of_pairs}
 use Rattle.evp_format.specs.declared.value.Value.{Value}
 use Rattle.evp_record.specs.Parts.{field_value, nth_element, element_value, list_length}
@@ -36,7 +37,8 @@ pub joined-none : (entries : Entries) → joined entries empty_record ≡ entrie
 joined-none empty_record = refl
 joined-none (entry name datum rest) = ap (λ (e : Entries). entry name datum e) (joined-none rest)
 
-entries_behind-step : (entries : Entries) (k : ℕ) (name : List ℕ) (value : Datum) → name_at entries k ≡ Some name → entry_at entries k ≡ Some value
+entries_behind-step : (entries : Entries) (k : ℕ) (name : List ℕ) (value : Datum) → name_at entries k ≡ Some name
+    → entry_at entries k ≡ Some value
     → entries_behind k entries ≡ entry name value (entries_behind (suc k) entries)
 entries_behind-step empty_record k name value named found = cc
 entries_behind-step (entry first datum rest) zero name value named found =
@@ -64,14 +66,16 @@ entry_found (list elements) k found is = cc
 entry_found (rec entries) k found is = is
 
 -- one more pair takes the next entry from the rest
-pub joined-pair : (pairs : List (List ℕ × Value)) (name : List ℕ) (value : Value) (whole : Datum) (k : ℕ) → name_at (entries_in whole) k ≡ Some name → field_value whole k ≡ Some (datum_of value)
+pub joined-pair : (pairs : List (List ℕ × Value)) (name : List ℕ) (value : Value) (whole : Datum) (k : ℕ)
+    → name_at (entries_in whole) k ≡ Some name → field_value whole k ≡ Some (datum_of value)
     → joined (entries_of_pairs pairs) (entries_behind k (entries_in whole)) ≡ entries_in whole
     → joined (entries_of_pairs (pairs ++ (name, value) ∷ [])) (entries_behind (k + 1) (entries_in whole)) ≡ entries_in whole
 joined-pair pairs name value whole k named found so_far =
     let f : (List ℕ × Value) → (List ℕ × Datum) = λ pair. (pair.0, datum_of pair.1) in
     let step = entries_behind-step (entries_in whole) k name (datum_of value) named (entry_found whole k (datum_of value) found) in
     ap (λ (i : ℕ). joined (entries_of_pairs (pairs ++ (name, value) ∷ [])) (entries_behind i (entries_in whole))) (add-one k)
-    ∙ ap (λ (ps : List (List ℕ × Datum)). joined (entries_from ps) (entries_behind (suc k) (entries_in whole))) (map-append f pairs ((name, value) ∷ []))
+    ∙ ap (λ (ps : List (List ℕ × Datum)). joined (entries_from ps) (entries_behind (suc k) (entries_in whole)))
+    (map-append f pairs ((name, value) ∷ []))
     ∙ joined-push (map f pairs) name (datum_of value) (entries_behind (suc k) (entries_in whole))
     ∙ ap (λ (e : Entries). joined (entries_of_pairs pairs) e) (sym step) ∙ so_far
 
@@ -98,7 +102,8 @@ pub linked-none : (elements : Elements) → linked elements empty_list ≡ eleme
 linked-none empty_list = refl
 linked-none (element datum rest) = ap (λ (e : Elements). element datum e) (linked-none rest)
 
-elements_behind-step : (elements : Elements) (k : ℕ) (value : Datum) → nth_element elements k ≡ Some value → elements_behind k elements ≡ element value (elements_behind (suc k) elements)
+elements_behind-step : (elements : Elements) (k : ℕ) (value : Datum) → nth_element elements k ≡ Some value
+    → elements_behind k elements ≡ element value (elements_behind (suc k) elements)
 elements_behind-step empty_list k value found = cc
 elements_behind-step (element datum rest) zero value found = let held : datum ≡ value = cc in ap (λ (d : Datum). element d rest) held
 elements_behind-step (element datum rest) (suc k) value found = elements_behind-step rest k value found
@@ -109,11 +114,13 @@ elements_behind-all empty_list (suc k) count = refl
 elements_behind-all (element datum rest) zero count = cc
 elements_behind-all (element datum rest) (suc k) count = elements_behind-all rest k (cc)
 
-linked-push : (values : List Datum) (value : Datum) (others : Elements) → linked (elements_from (values ++ value ∷ [])) others ≡ linked (elements_from values) (element value others)
+linked-push : (values : List Datum) (value : Datum) (others : Elements)
+    → linked (elements_from (values ++ value ∷ [])) others ≡ linked (elements_from values) (element value others)
 linked-push [] value others = refl
 linked-push (first ∷ values) value others = ap (λ (e : Elements). element first e) (linked-push values value others)
 
-element_found : (part : Option Datum) (k : ℕ) (found : Datum) → element_value part k ≡ Some found → nth_element (elements_in part) k ≡ Some found
+element_found : (part : Option Datum) (k : ℕ) (found : Datum) → element_value part k ≡ Some found
+    → nth_element (elements_in part) k ≡ Some found
 element_found None k found is = cc
 element_found (Some (num z)) k found is = cc
 element_found (Some null) k found is = cc
@@ -128,13 +135,15 @@ pub linked-value : (values : List Value) (value : Value) (part : Option Datum) (
 linked-value values value part k found so_far =
     let step = elements_behind-step (elements_in part) k (datum_of value) (element_found part k (datum_of value) found) in
     ap (λ (i : ℕ). linked (elements_of_values (values ++ value ∷ [])) (elements_behind i (elements_in part))) (add-one k)
-    ∙ ap (λ (ds : List Datum). linked (elements_from ds) (elements_behind (suc k) (elements_in part))) (map-append datum_of values (value ∷ []))
+    ∙ ap (λ (ds : List Datum). linked (elements_from ds) (elements_behind (suc k) (elements_in part)))
+    (map-append datum_of values (value ∷ []))
     ∙ linked-push (map datum_of values) (datum_of value) (elements_behind (suc k) (elements_in part))
     ∙ ap (λ (e : Elements). linked (elements_of_values values) e) (sym step) ∙ so_far
 
 -- at the list's length the values are all its elements
 pub linked-all : (values : List Value) (part : Option Datum) (n : ℕ) → list_length part ≡ Some n
-    → linked (elements_of_values values) (elements_behind n (elements_in part)) ≡ elements_in part → part ≡ Some (list (elements_of_values values))
+    → linked (elements_of_values values) (elements_behind n (elements_in part)) ≡ elements_in part
+    → part ≡ Some (list (elements_of_values values))
 linked-all values None n long so_far = cc
 linked-all values (Some (num z)) n long so_far = cc
 linked-all values (Some null) n long so_far = cc

@@ -1,5 +1,6 @@
 -- Where the leads of a well laid type stand, and what is inside them.
-use Rattle.std.proofs.Common.{◌≡◌, ℕ, zero, suc, ◌+◌, ◌*◌, ◌^◌, ◌<◌, ◌≤◌, Bool, true, false, nat_lt, List, [], ◌∷◌, length, take, get_or, Option, Some, None, refl, sym, ap, ◌∙◌, subst, arith, IsTrue}
+use Rattle.std.proofs.Common.{◌≡◌, ℕ, zero, suc, ◌+◌, ◌*◌, ◌^◌, ◌<◌, ◌≤◌, Bool, true, false, nat_lt, List, [], ◌∷◌, length, take, get_or}
+use Rattle.std.proofs.Common.{Option, Some, None, refl, sym, ap, ◌∙◌, subst, arith, IsTrue}
 use Rattle.std.specs.Prelude.{slice_get, option_and_then, if◌then◌else◌}
 use Rattle.std.proofs.lemmas.Bool.Decides.{nat_tests}
 use Rattle.std.proofs.lemmas.List.{length-take}
@@ -25,7 +26,8 @@ use Rattle.evp_format.specs.WellLaid.{IsWellLaid, HasBaseSize, HasShape, CountsE
 use Rattle.evp_format.proofs.Trees.{found_below, slice_get-below}
 use Rattle.evp_record.specs.LeadMarks.{HasInside, run_extent, CountsInside, IsLead, IsLeadAt, within}
 use Rattle.evp_record.specs.Record.{Record}
-use Rattle.evp_record.proofs.Laid.{laid_at, NestedAt, inside, sized_among_all, size_above, nested_at, type_fields-found, extent_of_one}
+use Rattle.evp_format.proofs.LaidBases.{size_above, sized_among_all}
+use Rattle.evp_record.proofs.Laid.{laid_at, NestedAt, inside, nested_at, type_fields-found, extent_of_one}
 
 -- how deep what is inside may lead: a nested type is an earlier one
 abbrev pub rank : Inside → ℕ
@@ -38,26 +40,32 @@ pub record IsLeadOf (layout : Layout) (n : ℕ) (lead : Lead) : Type 0 where
   pub is_lead : IsLead layout (length_of (tree_of layout n)) lead
   pub earlier : rank lead.inside ≤ 8 * n
 
-all_cons : (P : Lead → Type 0) (lead : Lead) (others : List Lead) → P lead → All P others → (k : ℕ) (d : Lead) → k < length (lead ∷ others) → P (get_or (lead ∷ others) k d)
+all_cons : (P : Lead → Type 0) (lead : Lead) (others : List Lead) → P lead → All P others → (k : ℕ) (d : Lead) → k < length (lead ∷ others)
+    → P (get_or (lead ∷ others) k d)
 all_cons P lead others first rest zero d below = first
 all_cons P lead others first rest (suc k) d below = rest k d (omega (arith, below))
 
 each_lead : (P : Lead → Type 0) (points : ℕ → Bool) (all fields : List Field) (k : ℕ)
-    → ((i : ℕ) (field : Field) → slice_get fields i ≡ Some field → P (lead_from points all (k + i) field)) → All P (leads_in points all fields k)
+    → ((i : ℕ) (field : Field) → slice_get fields i ≡ Some field → P (lead_from points all (k + i) field))
+    → All P (leads_in points all fields k)
 each_lead P points all [] k holds = λ i d below. absurd (omega (arith, below))
 each_lead P points all (field ∷ fields) k holds =
     let here : k + 0 ≡ k = omega arith in
     let first : P (lead_from points all k field) = subst (λ i. P (lead_from points all i field)) here (holds 0 field refl) in
     let rest =
     each_lead P points all fields (suc k)
-    (λ i other found. let next : k + suc i ≡ suc k + i = omega arith in subst (λ j. P (lead_from points all j other)) next (holds (suc i) other found)) in
-    with_first (leads_by field.shape (inside_of points field.base)) (lead_from points all k field) (leads_in points all fields (suc k)) first rest
+    (λ i other found. let next : k + suc i ≡ suc k + i = omega arith in subst (λ j. P (lead_from points all j other)) next
+    (holds (suc i) other found)) in
+    with_first (leads_by field.shape (inside_of points field.base)) (lead_from points all k field) (leads_in points all fields (suc k))
+    first rest
   where
-    with_first : (leads : Bool) (lead : Lead) (others : List Lead) → P lead → All P others → All P (with_lead (if leads then Some lead else None) others)
+    with_first : (leads : Bool) (lead : Lead) (others : List Lead) → P lead → All P others
+        → All P (with_lead (if leads then Some lead else None) others)
     with_first true lead others first rest = all_cons P lead others first rest
     with_first false lead others first rest = rest
 
-inside_earlier : (layout : Layout) (points : ℕ → Bool) (n : ℕ) (base : Base) (size : ℕ) → IsWellLaid layout → HasBaseSize layout.pointer (take n layout.types) base size
+inside_earlier : (layout : Layout) (points : ℕ → Bool) (n : ℕ) (base : Base) (size : ℕ) → IsWellLaid layout
+    → HasBaseSize layout.pointer (take n layout.types) base size
     → HasInside layout (inside_of points base) size × (rank (inside_of points base) ≤ 8 * n)
 inside_earlier layout points n (Number kind) size laid sized = (tt, omega arith)
 inside_earlier layout points n Text size laid sized = (sized, omega arith)
@@ -69,17 +77,20 @@ inside_earlier layout points n (Nested m) size laid sized = by_test (points m)
     below : m < length (take n layout.types)
     below = slice_get-below (take n layout.types) m sized.0 sized.1
 
-    by_test : (led : Bool) → HasInside layout (if led then inside.Record m else inside.Plain) size × (rank (if led then inside.Record m else inside.Plain) ≤ 8 * n)
+    by_test : (led : Bool) → HasInside layout (if led then inside.Record m else inside.Plain) size
+        × (rank (if led then inside.Record m else inside.Plain) ≤ 8 * n)
     by_test true = let kept = length-take n layout.types in ((nested.there, nested.long), omega (arith, below, kept))
     by_test false = (tt, omega arith)
 
-run_extent-shape : (pointer : ℕ) (all : List Field) (shape : Shape) (size : ℕ) → run_extent pointer (run_in all shape) size ≡ shape_extent pointer shape size
+run_extent-shape : (pointer : ℕ) (all : List Field) (shape : Shape) (size : ℕ)
+    → run_extent pointer (run_in all shape) size ≡ shape_extent pointer shape size
 run_extent-shape pointer all One size = refl
 run_extent-shape pointer all (Fixed n) size = refl
 run_extent-shape pointer all (Counted c) size = refl
 
 -- a count's size, by its base
-count_sized : (pointer : ℕ) (types : List RecordType) (base : Base) (size : ℕ) → CountsElements base → HasBaseSize pointer types base size → IsTrue (is_size_of (kind_of base) size)
+count_sized : (pointer : ℕ) (types : List RecordType) (base : Base) (size : ℕ) → CountsElements base → HasBaseSize pointer types base size
+    → IsTrue (is_size_of (kind_of base) size)
 count_sized pointer types (Number Int) size counts sized = sized
 count_sized pointer types (Number Unsigned) size counts sized = sized
 count_sized pointer types (Number Char) size counts sized = absurd counts
@@ -88,7 +99,8 @@ count_sized pointer types (Number Enumeration) size counts sized = absurd counts
 count_sized pointer types Text size counts sized = absurd counts
 count_sized pointer types (Nested m) size counts sized = absurd counts
 
-counts_inside : (layout : Layout) (n : ℕ) (type : RecordType) (shape : Shape) → IsWellLaid layout → slice_get layout.types n ≡ Some type → HasShape type.fields shape
+counts_inside : (layout : Layout) (n : ℕ) (type : RecordType) (shape : Shape) → IsWellLaid layout → slice_get layout.types n ≡ Some type
+    → HasShape type.fields shape
     → CountsInside (length_of (tree_of layout n)) (run_in type.fields shape)
 counts_inside layout n type One laid found has = tt
 counts_inside layout n type (Fixed m) laid found has = tt
@@ -97,7 +109,10 @@ counts_inside layout n type (Counted c) laid found has =
     let fits = inside layout n c has.0 at in
     let takes = extent_of_one layout.pointer has.0 has.2 in
     let Counts : Option Field → Type 0 = λ o. CountsInside (length_of (tree_of layout n)) (run.Counted (count_from o)) in
-    subst Counts (sym has.1) (count_sized layout.pointer (take n layout.types) has.0.base has.0.size has.3 at.laid.size_allowed, omega (arith, fits, takes))
+    subst Counts (sym has.1) (
+      count_sized layout.pointer (take n layout.types) has.0.base has.0.size has.3 at.laid.size_allowed,
+      omega (arith, fits, takes),
+    )
 
 -- each lead of type n
 pub leads_are : (layout : Layout) (n : ℕ) → IsWellLaid layout → n < length layout.types → All (IsLeadOf layout n) (leads_of layout n)
@@ -116,7 +131,8 @@ leads_are layout n laid below =
     let shape = ((laid.each_type n type found.1).each_field i field there).shape_allowed in
     record {
       is_lead = record {
-        some = size_above layout field.base field.size laid (sized_among_all layout.pointer layout.types n field.base field.size at.laid.size_allowed);
+        some = size_above layout field.base field.size laid (sized_among_all layout.pointer layout.types n field.base field.size
+            at.laid.size_allowed);
         has_inside = here.0;
         fits = omega (arith, fits, takes);
         counts = counts_inside layout n type field.shape laid found.1 shape;
@@ -130,17 +146,21 @@ pub record IsCountedLead (held : Record) (at : ℕ) (lead : Lead) (count : Count
   pub count_inside : at + count.offset + count.size ≤ length held.bytes
   pub pointer_inside : at + lead.offset + held.layout.pointer ≤ length held.bytes
 
-pub counted_lead : (held : Record) (at : ℕ) (lead : Lead) (count : Count) → IsLeadAt held at lead → lead.run ≡ run.Counted count → IsCountedLead held at lead count
+pub counted_lead : (held : Record) (at : ℕ) (lead : Lead) (count : Count) → IsLeadAt held at lead → lead.run ≡ run.Counted count
+    → IsCountedLead held at lead count
 counted_lead held at lead count is counted =
     let counts = subst (CountsInside is.fixed) counted is.is_lead.counts in
-    let takes : run_extent held.layout.pointer lead.run lead.size ≡ held.layout.pointer = ap (λ (r : Run). run_extent held.layout.pointer r lead.size) counted in
+    let takes : run_extent held.layout.pointer lead.run lead.size
+    ≡ held.layout.pointer = ap (λ (r : Run). run_extent held.layout.pointer r lead.size) counted in
     let fits = is.is_lead.fits in
     let within = is.inside in
     record { allowed = counts.0; count_inside = omega (arith, counts.1, within); pointer_inside = omega (arith, fits, takes, within) }
 
-pub extent_of_run : (held : Record) (at : ℕ) (lead : Lead) (r : Run) → IsLeadAt held at lead → lead.run ≡ r → at + lead.offset + run_extent held.layout.pointer r lead.size ≤ length held.bytes
+pub extent_of_run : (held : Record) (at : ℕ) (lead : Lead) (r : Run) → IsLeadAt held at lead → lead.run ≡ r
+    → at + lead.offset + run_extent held.layout.pointer r lead.size ≤ length held.bytes
 extent_of_run held at lead r is same =
-    let takes : run_extent held.layout.pointer lead.run lead.size ≡ run_extent held.layout.pointer r lead.size = ap (λ (other : Run). run_extent held.layout.pointer other lead.size) same in
+    let takes : run_extent held.layout.pointer lead.run lead.size
+    ≡ run_extent held.layout.pointer r lead.size = ap (λ (other : Run). run_extent held.layout.pointer other lead.size) same in
     omega (arith, is.is_lead.fits, takes, is.inside)
 
 -- the record inside an element
@@ -156,14 +176,16 @@ within_some room end e is = by_test (nat_lt room e) refl is
     by_test false told is = let same : end ≡ e = cc in (same, grind (arith, nat_tests))
 
 -- a lead that was read from those of the type
-pub lead_at : (inner held : Record) (n at k : ℕ) (items : List Lead) (d : Lead) → inner ≡ held → IsWellLaid inner.layout → length inner.bytes < 2 ^ 32 → n < length held.layout.types
+pub lead_at : (inner held : Record) (n at k : ℕ) (items : List Lead) (d : Lead) → inner ≡ held → IsWellLaid inner.layout
+    → length inner.bytes < 2 ^ 32 → n < length held.layout.types
     → items ≡ leads_of inner.layout n → at + length_of (tree_of held.layout n) ≤ length held.bytes → k < length items
     → (rank (get_or items k d).inside ≤ 8 * n) × IsLeadAt held at (get_or items k d)
 lead_at inner held n at k items d same laid short there are inside below =
     subst Here same inner_here there inside
   where
     Here : Record → Type 0
-    Here some = n < length some.layout.types → at + length_of (tree_of some.layout n) ≤ length some.bytes → (rank (get_or items k d).inside ≤ 8 * n) × IsLeadAt some at (get_or items k d)
+    Here some = n < length some.layout.types → at + length_of (tree_of some.layout n) ≤ length some.bytes
+        → (rank (get_or items k d).inside ≤ 8 * n) × IsLeadAt some at (get_or items k d)
 
     inner_here : Here inner
     inner_here there inside =

@@ -5,7 +5,7 @@ pub mod LeadWalks
 pub mod Lowered
 pub mod Marked
 pub mod NumbersRead
-pub mod Ranks
+pub mod ReadLists
 pub mod Reading
 pub mod Roots
 pub mod SampleRecord

@@ -14,7 +14,7 @@ use Rattle.evp_record.specs.Record.{Record}
 use Rattle.evp_record.specs.Spots.{IsReached, walk_at, root_spot}
 use Rattle.evp_record.specs.declared.spot.Spot.{Spot}
 use Rattle.evp_record.proofs.Lowered.{ReadsAlike-tree, viewed-alike}
-use Rattle.evp_record.proofs.Reading.{read_of_ok}
+use Rattle.evp_record.proofs.ReadLists.{read_of_ok}
 use Rattle.evp_record.proofs.Viewed.{view-walked}
 
 long_enough_by : (test : Bool) (next : Unit {0} → Walked Datum) → IsOk (viewed (unless test ShortRecord next)) → test ≡ false
@@ -24,11 +24,13 @@ long_enough_by false next ok = refl
 -- bytes that have a view are as long as the record
 pub long_enough : (layout : Layout) (bytes : List ℕ) → IsOk (view layout bytes) → length_of (root_of layout) ≤ length bytes
 long_enough layout bytes ok =
-    let passed = long_enough_by (nat_lt (length bytes) (length_of (root_of layout))) (λ _. view_tree (image_of layout bytes) (root_of layout) 0 [] (length_of (root_of layout))) ok in
+    let passed = long_enough_by (nat_lt (length bytes) (length_of (root_of layout)))
+    (λ _. view_tree (image_of layout bytes) (root_of layout) 0 [] (length_of (root_of layout))) ok in
     grind (arith, nat_tests)
 
 -- a walk of the record on its own has its view
-pub viewed_root : (held : Record) → IsOk (view held.layout held.bytes) → viewed (walk_at held (root_spot held.layout)) ≡ view held.layout held.bytes
+pub viewed_root : (held : Record) → IsOk (view held.layout held.bytes)
+    → viewed (walk_at held (root_spot held.layout)) ≡ view held.layout held.bytes
 viewed_root held ok =
     let layout = held.layout in
     let root = root_of layout in
@@ -37,7 +39,8 @@ viewed_root held ok =
     let same = view-walked layout held.bytes (long_enough layout held.bytes ok) in
     let Viewed : Result Datum Broken → Type 0 = λ r. IsOk r in
     let r = read_of_ok walked (subst Viewed same ok) in
-    viewed-alike walked (walk_at held (root_spot layout)) r.value r.end (ReadsAlike-tree image root 0 [] [] (length_of root) 0 (omega arith)) r.is
+    viewed-alike walked (walk_at held (root_spot layout)) r.value r.end
+    (ReadsAlike-tree image root 0 [] [] (length_of root) 0 (omega arith)) r.is
     ∙ sym (ap viewed r.is) ∙ sym same
 
 pub root_reached : (held : Record) → IsWellLaid held.layout → IsOk (view held.layout held.bytes) → IsReached held (root_spot held.layout)
@@ -52,7 +55,8 @@ root_reached held laid ok =
     }
 
 -- the spot of the last type, as its number was read
-pub spot_of_last : (layout : Layout) (types all : List RecordType) → types ≡ all → all ≡ layout.types → root_spot layout ≡ record { type_number = length types - 1; at = 0 }
+pub spot_of_last : (layout : Layout) (types all : List RecordType) → types ≡ all → all ≡ layout.types
+    → root_spot layout ≡ record { type_number = length types - 1; at = 0 }
 spot_of_last layout types all read same =
     let spot : List RecordType → Spot = λ t. record { type_number = length t - 1; at = 0 } in
     ap spot (sym same) ∙ ap spot (sym read)

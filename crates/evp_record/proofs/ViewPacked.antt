@@ -22,26 +22,33 @@ use Rattle.evp_record.specs.Laws.{PackedIsViewed}
 
 -- a record type has at least one byte
 some_byte : (pointer : ℕ) (nested : Tree) → IsLaidTree pointer nested → 0 < length_of nested
-some_byte pointer (tree fixed branches) laid = let some = laid.0.laid.length_allowed.0 in let same = laid.0.has_length in omega (arith, some, same)
+some_byte pointer (tree fixed branches) laid = let some = laid.0.laid.length_allowed.0 in let same = laid.0.has_length in omega
+    (arith, some, same)
 
 -- the pieces lie inside the packed record
-inside_whole : (layout : Layout) (value : Datum) → IsWellLaid layout → IsOf layout value → AreInside (length {A = ℕ} (replicate (packed_size layout value) 0)) (pieces_of layout value).all
+inside_whole : (layout : Layout) (value : Datum) → IsWellLaid layout → IsOf layout value
+    → AreInside (length {A = ℕ} (replicate (packed_size layout value) 0)) (pieces_of layout value).all
 inside_whole layout value laid typed =
     let fixed = length_of (root_of layout) in
     let pieces = pieces_of layout value in
     let long = length-replicate {A = ℕ} pieces.size 0 in
-    each_map _ (λ (piece : Piece). end_of piece ≤ length {A = ℕ} (replicate pieces.size 0)) pieces.all (λ piece fits. omega (arith, fits, long))
+    each_map _ (λ (piece : Piece). end_of piece ≤ length {A = ℕ} (replicate pieces.size 0)) pieces.all
+    (λ piece fits. omega (arith, fits, long))
     (inside-placed (Within 0 fixed) fixed pieces (λ piece here. omega (arith, here.to)) (placed_whole layout value laid typed))
 
 -- the packed record is as long as the packed size says
-pub length-pack : (layout : Layout) (value : Datum) → IsWellLaid layout → IsOf layout value → length (pack layout value) ≡ packed_size layout value
+pub length-pack : (layout : Layout) (value : Datum) → IsWellLaid layout → IsOf layout value
+    → length (pack layout value) ≡ packed_size layout value
 length-pack layout value laid typed =
-    length-put_pieces (pieces_of layout value).all (replicate (packed_size layout value) 0) (inside_whole layout value laid typed) ∙ length-replicate {A = ℕ} (packed_size layout value) 0
+    length-put_pieces (pieces_of layout value).all (replicate (packed_size layout value) 0) (inside_whole layout value laid typed)
+    ∙ length-replicate {A = ℕ} (packed_size layout value) 0
 
 -- all pieces stand in the packed record
-held_whole : (layout : Layout) (value : Datum) → IsWellLaid layout → IsOf layout value → Each (Holds (pack layout value)) (pieces_of layout value).all
+held_whole : (layout : Layout) (value : Datum) → IsWellLaid layout → IsOf layout value
+    → Each (Holds (pack layout value)) (pieces_of layout value).all
 held_whole layout value laid typed =
-    held_all (pieces_of layout value).all (replicate (packed_size layout value) 0) (placed_whole layout value laid typed).apart (inside_whole layout value laid typed)
+    held_all (pieces_of layout value).all (replicate (packed_size layout value) 0) (placed_whole layout value laid typed).apart
+    (inside_whole layout value laid typed)
 
 -- what is packed is viewed as it was
 pub view-pack : PackedIsViewed
@@ -54,7 +61,8 @@ view-pack layout (rec members) laid typed small =
     let long = length-pack layout value laid typed in
     let some = some_byte layout.pointer root (laid_root layout laid) in
     let reads =
-    tree_reads (machine_of layout) bytes root 0 members [] fixed fixed laid.pointer_allowed (omega (arith, long, small)) (laid_root layout laid) typed (omega arith) some (omega arith) (omega (arith, long))
+    tree_reads (machine_of layout) bytes root 0 members [] fixed fixed laid.pointer_allowed (omega (arith, long, small))
+    (laid_root layout laid) typed (omega arith) some (omega arith) (omega (arith, long))
     (held_whole layout value laid typed) in
     ap viewed (goes_on (nat_lt (length bytes) fixed) _ _ (le-ltb (length bytes) fixed (omega (arith, long, placed.grows))) ∙ reads.1)
 view-pack layout (num n) laid typed small = absurd typed

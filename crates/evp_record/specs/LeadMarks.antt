@@ -1,5 +1,8 @@
--- The marks of a walk that goes by the leads of a type: the mark behind each, or none where there is a fault.
-use Rattle.std.specs.Prelude.{◌≡◌, ℕ, zero, suc, ◌+◌, ◌*◌, ◌^◌, ◌<◌, ◌≤◌, ℤ, pos, negsuc, ◌||◌, nat_eq, nat_lt, List, [], ◌∷◌, length, Option, Some, None, option_and_then, if◌then◌else◌, IsTrue, ⊤}
+-- The marks of a walk that goes by the leads of a type: the mark behind each, or none where there
+-- is a fault.
+use Rattle.std.specs.Prelude.{◌≡◌, ℕ, zero, suc, ◌+◌, ◌*◌, ◌^◌, ◌<◌, ◌≤◌, ℤ, pos, negsuc, ◌||◌}
+use Rattle.std.specs.Prelude.{nat_eq, nat_lt, List, [], ◌∷◌, length, Option, Some, None}
+use Rattle.std.specs.Prelude.{option_and_then, if◌then◌else◌, IsTrue, ⊤}
 use Rattle.evp_base.specs.Numbers.{number, is_size_of}
 use Rattle.evp_format.specs.declared.lead.Count.{Count}
 use Rattle.evp_format.specs.declared.lead.Inside.{Inside}
@@ -11,7 +14,8 @@ use Rattle.evp_format.specs.Bytes.{bytes_at}
 use Rattle.evp_format.specs.Datum.{Datum}
 use Rattle.evp_format.specs.Layout.{Layout}
 use Rattle.evp_format.specs.Tree.{tree_of, length_of}
-use Rattle.evp_format.specs.Viewing.{Image, Walked, read, broken, view_tree, view_string, image_of, pointer_at}
+use Rattle.evp_format.specs.Viewing.{Image, Walked, read, broken, view_tree, view_string, image_of}
+use Rattle.evp_format.specs.Viewing.{pointer_at}
 use Rattle.evp_record.specs.Record.{Record}
 
 -- the mark behind what was read
@@ -24,7 +28,8 @@ image_in held = image_of held.layout held.bytes
 
 -- the record of a type at `at`
 abbrev pub record_walk : Record → ℕ → ℕ → ℕ → Walked Datum
-record_walk held type_number at mark = view_tree (image_in held) (tree_of held.layout type_number) at [] mark
+record_walk held type_number at mark = view_tree (image_in held) (tree_of held.layout type_number)
+    at [] mark
 
 -- the string whose pointer stands at `at`
 abbrev pub text_walk : Record → ℕ → ℕ → Walked Datum
@@ -34,28 +39,35 @@ text_walk held at mark = view_string (image_in held) [] mark (pointer_at (image_
 abbrev pub inside_mark : Record → Inside → ℕ → ℕ → Option ℕ
 inside_mark held inside.Plain at mark = Some mark
 inside_mark held inside.Text at mark = mark_of (text_walk held at mark)
-inside_mark held (inside.Record type_number) at mark = mark_of (record_walk held type_number at mark)
+inside_mark held (inside.Record type_number) at mark = mark_of
+    (record_walk held type_number at mark)
 
 -- behind n elements from number k on, of which the first of all stands at `from`
 abbrev pub elements_mark : Record → Inside → ℕ → ℕ → ℕ → ℕ → ℕ → Option ℕ
 elements_mark held within size from zero k mark = Some mark
-elements_mark held within size from (suc n) k mark = option_and_then (λ after. elements_mark held within size from n (suc k) after) (inside_mark held within (from + k * size) mark)
+elements_mark held within size from (suc n) k mark = option_and_then
+    (λ after. elements_mark held within size from n (suc k) after)
+    (inside_mark held within (from + k * size) mark)
 
 -- behind a counted array by its count and its pointer q
 abbrev pub counted_mark : Record → Inside → ℕ → ℤ → ℕ → ℕ → Option ℕ
 counted_mark held within size (negsuc n) q mark = None
 counted_mark held within size (pos zero) q mark = Some mark
 counted_mark held within size (pos (suc n)) q mark =
-    if nat_eq q 0 || (nat_lt q mark || nat_lt (length held.bytes) (q + suc n * size)) then None else elements_mark held within size q (suc n) 0 (q + suc n * size)
+    if nat_eq q 0 || (nat_lt q mark || nat_lt (length held.bytes) (q + suc n * size)) then None
+    else elements_mark held within size q (suc n) 0 (q + suc n * size)
 
 -- the number of a count of the record at `at`
 abbrev pub count_at : Record → Count → ℕ → ℤ
-count_at held count at = number held.layout.order count.kind (bytes_at (at + count.offset) count.size held.bytes)
+count_at held count at = number held.layout.order count.kind
+    (bytes_at (at + count.offset) count.size held.bytes)
 
 abbrev pub run_mark : Record → Run → Lead → ℕ → ℕ → Option ℕ
 run_mark held run.One lead at mark = inside_mark held lead.inside (at + lead.offset) mark
-run_mark held (run.Fixed n) lead at mark = elements_mark held lead.inside lead.size (at + lead.offset) n 0 mark
-run_mark held (run.Counted count) lead at mark = counted_mark held lead.inside lead.size (count_at held count at) (pointer_at (image_in held) (at + lead.offset)) mark
+run_mark held (run.Fixed n) lead at mark = elements_mark held lead.inside lead.size
+    (at + lead.offset) n 0 mark
+run_mark held (run.Counted count) lead at mark = counted_mark held lead.inside lead.size
+    (count_at held count at) (pointer_at (image_in held) (at + lead.offset)) mark
 
 -- behind a lead of the record at `at`
 abbrev pub lead_mark : Record → Lead → ℕ → ℕ → Option ℕ
@@ -63,13 +75,15 @@ lead_mark held lead at mark = run_mark held lead.run lead at mark
 
 abbrev pub leads_mark : Record → List Lead → ℕ → ℕ → Option ℕ
 leads_mark held [] at mark = Some mark
-leads_mark held (lead ∷ leads) at mark = option_and_then (λ after. leads_mark held leads at after) (lead_mark held lead at mark)
+leads_mark held (lead ∷ leads) at mark = option_and_then (λ after. leads_mark held leads at after)
+    (lead_mark held lead at mark)
 
 -- an element of this size has that inside
 abbrev pub HasInside : Layout → Inside → ℕ → Type 0
 HasInside layout inside.Plain size = ⊤
 HasInside layout inside.Text size = size ≡ layout.pointer
-HasInside layout (inside.Record type_number) size = (type_number < length layout.types) × (length_of (tree_of layout type_number) ≡ size)
+HasInside layout (inside.Record type_number) size = (type_number < length layout.types)
+    × (length_of (tree_of layout type_number) ≡ size)
 
 -- the bytes that a lead takes inside its record
 abbrev pub run_extent : ℕ → Run → ℕ → ℕ
@@ -81,7 +95,8 @@ run_extent pointer (run.Counted count) size = pointer
 abbrev pub CountsInside : ℕ → Run → Type 0
 CountsInside length run.One = ⊤
 CountsInside length (run.Fixed n) = ⊤
-CountsInside length (run.Counted count) = IsTrue (is_size_of count.kind count.size) × (count.offset + count.size ≤ length)
+CountsInside length (run.Counted count) = IsTrue (is_size_of count.kind count.size)
+    × (count.offset + count.size ≤ length)
 
 -- a lead of a record of this length
 pub record IsLead (layout : Layout) (length : ℕ) (lead : Lead) : Type 0 where

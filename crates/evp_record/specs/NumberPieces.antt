@@ -18,7 +18,8 @@ abbrev pub IsInRangeOf : Option Field → ℤ → Type 0
 IsInRangeOf None n = ⊥
 IsInRangeOf (Some field) n = IsNumberIn field.base field.size n
 
--- element k of an array of numbers is the number of the k-th piece of these bytes, each of the field's size
+-- element k of an array of numbers is the number of the k-th piece of these bytes, each of the
+-- field's size
 pub record ArePieces (held : Record) (spot : Spot) (index : ℕ) (bytes : List ℕ) : Type 0 where
   pub field : Field
   pub kind : Kind
@@ -27,4 +28,5 @@ pub record ArePieces (held : Record) (spot : Spot) (index : ℕ) (bytes : List �
   pub is_number : field.base ≡ Number kind
   pub long : list_length (part_at held spot index) ≡ Some count
   pub whole : length bytes ≡ count * field.size
-  pub each : (k : ℕ) → k < count → element_at held spot index k ≡ Some (num (number held.layout.order kind (bytes_at (k * field.size) field.size bytes)))
+  pub each : (k : ℕ) → k < count → element_at held spot index k
+      ≡ Some (num (number held.layout.order kind (bytes_at (k * field.size) field.size bytes)))

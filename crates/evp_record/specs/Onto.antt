@@ -4,7 +4,8 @@ use Rattle.evp_format.specs.declared.field.Field.{Field}
 use Rattle.evp_format.specs.Datum.{Datum, Elements, Entries}
 use Rattle.evp_format.specs.LaidTree.{IsLaidPart}
 use Rattle.evp_format.specs.Layout.{Layout}
-use Rattle.evp_format.specs.Packing.{Pieces, put_pieces, machine_of, pack_tree, pack_part, pack_elements, pack_counted, pack_shaped}
+use Rattle.evp_format.specs.Packing.{Pieces, put_pieces, machine_of, pack_tree, pack_part}
+use Rattle.evp_format.specs.Packing.{pack_elements, pack_counted, pack_shaped}
 use Rattle.evp_format.specs.Typed.{IsShaped, IsOfPart}
 use Rattle.evp_format.specs.WellLaid.{HasBaseSize}
 use Rattle.evp_format.specs.Tree.{tree_of}
@@ -20,23 +21,28 @@ onto bytes pieces = put_pieces pieces.all (grown bytes pieces.size)
 
 -- the pieces of an element of a field, at `at`
 abbrev pub element_pieces : Layout → Field → ℕ → Datum → ℕ → Pieces
-element_pieces layout field at datum size = pack_part (machine_of layout) (part_in layout field) field.size at datum size
+element_pieces layout field at datum size = pack_part (machine_of layout) (part_in layout field)
+    field.size at datum size
 
 -- the pieces of elements k, k + 1 and so on of a field, the first of all at `at`
 abbrev pub list_pieces : Layout → Field → ℕ → Elements → ℕ → ℕ → Pieces
-list_pieces layout field at elements k size = pack_elements (λ i. element_pieces layout field (at + i * field.size)) elements k size
+list_pieces layout field at elements k size = pack_elements
+    (λ i. element_pieces layout field (at + i * field.size)) elements k size
 
 -- the pieces of a counted array of a field
 abbrev pub counted_pieces : Layout → Field → ℕ → Elements → ℕ → Pieces
-counted_pieces layout field at elements size = pack_counted (machine_of layout) at field.size elements (element_pieces layout field) size
+counted_pieces layout field at elements size = pack_counted (machine_of layout) at field.size
+    elements (element_pieces layout field) size
 
 -- the pieces of a field of the record at `at`
 abbrev pub field_pieces : Layout → Field → ℕ → Datum → ℕ → Pieces
-field_pieces layout field at datum size = pack_shaped (machine_of layout) field field.shape at datum (element_pieces layout field) size
+field_pieces layout field at datum size = pack_shaped (machine_of layout) field field.shape at datum
+    (element_pieces layout field) size
 
 -- the pieces of the record at `at`
 abbrev pub record_pieces : Layout → ℕ → ℕ → Entries → ℕ → Pieces
-record_pieces layout type_number at entries size = pack_tree (machine_of layout) (tree_of layout type_number) at entries size
+record_pieces layout type_number at entries size = pack_tree (machine_of layout)
+    (tree_of layout type_number) at entries size
 
 -- the value of an element of a field
 abbrev pub IsElementOf : Layout → Field → Datum → Type 0
@@ -44,7 +50,8 @@ IsElementOf layout field datum = IsOfPart (part_in layout field) field.size datu
 
 -- the value of a field, in some record
 abbrev pub IsValueOfField : Layout → Field → Datum → Type 0
-IsValueOfField layout field datum = (all : Entries) × IsShaped all field.shape (IsElementOf layout field) datum
+IsValueOfField layout field datum = (all : Entries)
+    × IsShaped all field.shape (IsElementOf layout field) datum
 
 -- the elements of a field of this type are well laid
 pub record IsLaidElement (layout : Layout) (type_number : ℕ) (field : Field) : Type 0 where

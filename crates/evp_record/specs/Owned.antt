@@ -17,4 +17,5 @@ pub record HasValueIn (formats : List Layout) (owned : OwnedBytes) : Type 0 wher
 
 -- the value that the bytes have in their format, where it is there
 abbrev pub value_in : List Layout → OwnedBytes → Option Datum
-value_in formats owned = option_map (λ layout. value_of (record_of layout owned.bytes)) (slice_get formats owned.format)
+value_in formats owned = option_map (λ layout. value_of (record_of layout owned.bytes))
+    (slice_get formats owned.format)

@@ -1,6 +1,7 @@
 -- The parts of a value.
 use Rattle.std.specs.Prelude.{ℕ, zero, suc, ◌<◌, List, Option, Some, None}
-use Rattle.evp_format.specs.Datum.{Datum, num, null, text, list, rec, Elements, empty_list, element, entry_at, count_of}
+use Rattle.evp_format.specs.Datum.{Datum, num, null, text, list, rec, Elements, empty_list, element}
+use Rattle.evp_format.specs.Datum.{entry_at, count_of}
 
 -- the value of the field of this number
 abbrev pub field_value : Datum → ℕ → Option Datum

@@ -16,9 +16,11 @@ use Rattle.evp_record.specs.Record.{Record, value_or_null}
 
 -- a walk of the record that stands there, on its own
 abbrev pub walk_at : Record → Spot → Walked Datum
-walk_at held spot = view_tree (image_of held.layout held.bytes) (tree_of held.layout spot.type_number) spot.at [] 0
+walk_at held spot = view_tree (image_of held.layout held.bytes)
+    (tree_of held.layout spot.type_number) spot.at [] 0
 
--- a record of that type stands there: its fixed part is inside the bytes, and a walk from there meets no fault
+-- a record of that type stands there: its fixed part is inside the bytes, and a walk from there
+-- meets no fault
 pub record IsReached (held : Record) (spot : Spot) : Type 0 where
   pub type_there : spot.type_number < length held.layout.types
   pub inside : spot.at + length_of (tree_of held.layout spot.type_number) ≤ length held.bytes
@@ -57,7 +59,8 @@ start_by (Fixed n) own pointer = own
 start_by (Counted c) own pointer = pointer
 
 abbrev pub elements_start : Record → Spot → Field → ℕ
-elements_start held spot field = start_by field.shape (spot.at + field.offset) (pointer_at (image_of held.layout held.bytes) (spot.at + field.offset))
+elements_start held spot field = start_by field.shape (spot.at + field.offset)
+    (pointer_at (image_of held.layout held.bytes) (spot.at + field.offset))
 
 -- the record itself
 abbrev pub root_spot : Layout → Spot

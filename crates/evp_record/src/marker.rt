@@ -1,11 +1,13 @@
-//! The walk of a record that has no fault: it answers the mark, or that there is a fault. It goes by
-//! the leads of a type alone, since nothing else can fail in bytes that are long enough.
+//! The walk of a record that has no fault: it answers the mark, or that there is a fault. It goes
+//! by the leads of a type alone, since nothing else can fail in bytes that are long enough.
 
 ghost use Rattle.std.specs.Prelude.{◌≡◌, ◌+◌, ◌*◌, ◌^◌, ◌≤◌, ◌<◌, length, IfSome};
 ghost use Rattle.evp_format.specs.Tree.{tree_of, length_of};
 ghost use Rattle.evp_format.specs.WellLaid.{IsWellLaid};
-ghost use Rattle.evp_record.specs.LeadMarks.{mark_of, record_walk, text_walk, inside_mark, elements_mark, lead_mark, HasInside, IsLeadAt, within};
+ghost use Rattle.evp_record.specs.LeadMarks.{mark_of, record_walk, text_walk, inside_mark};
+ghost use Rattle.evp_record.specs.LeadMarks.{elements_mark, lead_mark, HasInside, IsLeadAt, within};
 ghost use Rattle.evp_record.specs.Record.{record_of};
+ghost use Rattle.evp_format.specs.declared.lead.Inside.{Inside};
 ghost use Rattle.evp_format.specs.declared.lead.Run.{Run};
 
 use crate::words::{number_at, pointer_at, zero_at};
@@ -110,13 +112,51 @@ impl<'a> Marker<'a> {
             ≡ elements_mark self.now lead.now.inside lead.now.size from count 0 mark }
         ensures mark_in { IfSome result (λ end. end ≤ length self.now.bytes) }
     {
-        if let Inside::Plain = lead.inside {
-            return Some(mark);
+        match lead.inside {
+            Inside::Plain => Some(mark),
+            Inside::Text => self.texts(lead.size, from, count, mark),
+            Inside::Record(type_number) => self.records(type_number, lead.size, from, count, mark),
         }
+    }
+
+    // The mark behind this many strings, of which the pointer of the first stands at `from`.
+    fn texts(&self, size: u32, from: usize, count: u32, mark: usize) -> Option<usize>
+        requires sized { size ≡ self.now.layout.pointer }
+        requires fits { from + count * size ≤ length self.now.bytes }
+        requires short { length self.now.bytes < 2 ^ 32 }
+        requires mark_in { mark ≤ length self.now.bytes }
+        ensures value { result ≡ elements_mark self.now Inside.Text size from count 0 mark }
+        ensures mark_in { IfSome result (λ end. end ≤ length self.now.bytes) }
+    {
         let mut mark = mark;
         for index in 0..count {
-            let at = from + index as usize * lead.size as usize;
-            mark = self.inside(lead.inside, lead.size, at, mark)?;
+            mark = self.text(from + index as usize * size as usize, mark)?;
+        }
+        Some(mark)
+    }
+
+    // The mark behind this many records of that type and size, of which the first stands at `from`.
+    #[cycle(mark)]
+    fn records(
+        &self,
+        type_number: u16,
+        size: u32,
+        from: usize,
+        count: u32,
+        mark: usize,
+    ) -> Option<usize>
+        requires has_inside { HasInside self.now.layout (Inside.Record type_number) size }
+        requires fits { from + count * size ≤ length self.now.bytes }
+        requires short { length self.now.bytes < 2 ^ 32 }
+        requires mark_in { mark ≤ length self.now.bytes }
+        ensures value { result
+            ≡ elements_mark self.now (Inside.Record type_number) size from count 0 mark }
+        ensures mark_in { IfSome result (λ end. end ≤ length self.now.bytes) }
+    {
+        let mut mark = mark;
+        for index in 0..count {
+            let at = from + index as usize * size as usize;
+            mark = self.record(type_number, at, mark)?;
         }
         Some(mark)
     }

@@ -7,11 +7,14 @@ ghost use Rattle.evp_format.specs.Viewing.{pointer_at, image_of};
 ghost use Rattle.evp_record.specs.Walks.{IsCountAt, count_number};
 ghost use Rattle.evp_format.specs.WellLaid.{IsWellLaid, IsNumberIn};
 ghost use Rattle.evp_format.specs.Datum.{num};
-ghost use Rattle.evp_record.specs.Class.{field_at, class_at, content_of, array, numbers, texts, records, IsSingle, IsArray, IsFieldOf, nested_number, type_fields};
+ghost use Rattle.evp_record.specs.Class.{field_at, class_at, content_of, array, numbers, texts};
+ghost use Rattle.evp_record.specs.Class.{records, IsSingle, IsArray, IsFieldOf, nested_number};
+ghost use Rattle.evp_record.specs.Class.{type_fields};
 ghost use Rattle.evp_record.specs.NumberPieces.{ArePieces};
 ghost use Rattle.evp_record.specs.Record.{IsRecord};
 ghost use Rattle.evp_record.specs.Parts.{IsBelow, list_length, text_value};
-ghost use Rattle.evp_record.specs.Spots.{IsReached, IsPartAt, part_at, element_at, value_at, value_there, elements_start};
+ghost use Rattle.evp_record.specs.Spots.{IsReached, IsPartAt, part_at, element_at, value_at};
+ghost use Rattle.evp_record.specs.Spots.{value_there, elements_start};
 ghost use Rattle.std.specs.Option.{option_copied};
 
 use crate::fields::{count_at, field_at};

@@ -1,24 +1,28 @@
 //! The readers of a checked record. Each is a read at an offset: none walks the record, and none
 //! takes memory. A field of a type is named by its number, from 0.
 
-ghost use Rattle.std.specs.Prelude.{◌≡◌, Some, IfSome};
+ghost use Rattle.std.specs.Prelude.{◌≡◌, ◌<◌, Some, IfSome};
 ghost use Rattle.evp_format.specs.Text.{HasNoZero};
 ghost use Rattle.std.specs.Option.{option_copied};
 ghost use Rattle.evp_format.specs.Datum.{num};
-ghost use Rattle.evp_record.specs.Class.{field_at, class_at, single, array, numbers, texts, records, IsArray, nested_at};
+ghost use Rattle.evp_format.specs.WellLaid.{IsWellLaid};
+ghost use Rattle.evp_record.specs.Class.{field_at, class_at, single, array, numbers, texts};
+ghost use Rattle.evp_record.specs.Class.{records, IsArray, nested_at};
 ghost use Rattle.evp_record.specs.NumberPieces.{ArePieces, IsInRangeOf};
 ghost use Rattle.evp_record.specs.Parts.{IsBelow, list_length, text_value};
-ghost use Rattle.evp_record.specs.Record.{value_of};
+ghost use Rattle.evp_record.specs.Record.{IsRecord, value_of};
 ghost use Rattle.evp_record.specs.Spots.{IsReached, part_at, element_at, value_at, root_spot};
 
 use crate::{Checked, Spot};
 
 impl<'a> Checked<'a> {
-    /// The record itself.
+    /// The record itself, in a format that is well laid.
     pub fn root(&self) -> Spot
         ensures place { result ≡ root_spot self.now.layout }
         ensures reached { IsReached self.now result }
         ensures value { value_at self.now result ≡ value_of self.now }
+        ensures kept { IsRecord self.now }
+        ensures laid { IsWellLaid self.now.layout }
     {
         Spot {
             type_number: (self.format().types().len() - 1) as u16,
@@ -47,7 +51,7 @@ impl<'a> Checked<'a> {
         self.text(self.single(spot, field))
     }
 
-    /// The record in a single record field of the record at the spot.
+    /// The record in a single record field of the record at the spot. Its type is an earlier one.
     pub fn record_at(&self, spot: Spot, field: u16) -> Spot
         requires reached { IsReached self.now spot }
         requires class { class_at self.now.layout spot.type_number field ≡ Some (single records) }
@@ -55,6 +59,7 @@ impl<'a> Checked<'a> {
         ensures value { part_at self.now spot field ≡ Some (value_at self.now result) }
         ensures number { nested_at self.now.layout spot.type_number field
             ≡ Some result.type_number }
+        ensures earlier { result.type_number < spot.type_number }
     {
         self.nested(self.single(spot, field))
     }
@@ -68,8 +73,8 @@ impl<'a> Checked<'a> {
         self.length(spot, field)
     }
 
-    /// The number that is element k of an array field of the record at the spot, in the range of its
-    /// field.
+    /// The number that is element k of an array field of the record at the spot, in the range of
+    /// its field.
     pub fn number_in(&self, spot: Spot, field: u16, k: u32) -> i128
         requires reached { IsReached self.now spot }
         requires class { class_at self.now.layout spot.type_number field ≡ Some (array numbers) }
@@ -103,7 +108,8 @@ impl<'a> Checked<'a> {
         self.text(self.element(spot, field, k))
     }
 
-    /// The record that is element k of an array field of the record at the spot.
+    /// The record that is element k of an array field of the record at the spot. Its type is an
+    /// earlier one.
     pub fn record_in(&self, spot: Spot, field: u16, k: u32) -> Spot
         requires reached { IsReached self.now spot }
         requires class { class_at self.now.layout spot.type_number field ≡ Some (array records) }
@@ -112,6 +118,7 @@ impl<'a> Checked<'a> {
         ensures value { element_at self.now spot field k ≡ Some (value_at self.now result) }
         ensures number { nested_at self.now.layout spot.type_number field
             ≡ Some result.type_number }
+        ensures earlier { result.type_number < spot.type_number }
     {
         self.nested(self.element(spot, field, k))
     }

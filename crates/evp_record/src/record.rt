@@ -44,8 +44,11 @@ pub fn check<'a>(format: &'a Format, bytes: &'a [u8]) -> Result<Checked<'a>, Bro
     if bytes.len() < length {
         return Err(Broken::ShortRecord);
     }
-    let last = format.types().len() - 1;
-    let end = Marker::new(format, bytes).record(last as u16, 0, length);
+    let last = (format.types().len() - 1) as u16;
+    if format.leads(last).is_empty() {
+        return Ok(Checked { format, bytes });
+    }
+    let end = Marker::new(format, bytes).record(last, 0, length);
     if end.is_none() {
         return Err(first_fault(format, bytes));
     }

@@ -1,3 +1,5 @@
+mod readers;
+
 ghost use Rattle.std.specs.Prelude.{◌≡◌};
 ghost use Rattle.evp_record.specs.Samples.{list_description, list_bytes};
 
@@ -16,35 +18,39 @@ const TEXT: &[u8] = b"NDF1\0\x04\0\x01\x01p\0\0\0\x04\0\x01\x01s\x06string\0\0\0
 const WIDE_TEXT: &[u8] = b"NDF1\0\x08\0\x01\x01p\0\0\0\x08\0\x01\x01s\x06string\0\0\0\x08\0\0\0\0";
 
 // Two strings, `s` and `t`.
-const TEXTS: &[u8] =
-    b"NDF1\0\x04\0\x01\x01p\0\0\0\x08\0\x02\x01s\x06string\0\0\0\x04\0\0\0\0\x01t\x06string\0\0\0\x04\0\0\0\x04";
+const TEXTS: &[u8] = b"NDF1\0\x04\0\x01\x01p\0\0\0\x08\0\x02\x01s\x06string\0\0\0\x04\0\0\0\0\
+      \x01t\x06string\0\0\0\x04\0\0\0\x04";
 
 // A list `a` of numbers in front of its count `n`.
-const LIST: &[u8] =
-    b"NDF1\0\x04\0\x01\x01p\0\0\0\x08\0\x02\x01a\ninteger[n]\0\0\0\x04\0\0\0\0\x01n\x07integer\0\0\0\x04\0\0\0\x04";
+const LIST: &[u8] = b"NDF1\0\x04\0\x01\x01p\0\0\0\x08\0\x02\x01a\ninteger[n]\0\0\0\x04\0\0\0\0\
+      \x01n\x07integer\0\0\0\x04\0\0\0\x04";
 
 // The same with 8 bytes each, big endian.
 const WIDE_LIST: &[u8] =
-    b"NDF1\x01\x08\0\x01\x01p\0\0\0\x10\0\x02\x01a\ninteger[n]\0\0\0\x08\0\0\0\0\x01n\x10unsigned integer\0\0\0\x08\0\0\0\x08";
+    b"NDF1\x01\x08\0\x01\x01p\0\0\0\x10\0\x02\x01a\ninteger[n]\0\0\0\x08\0\0\0\0\
+      \x01n\x10unsigned integer\0\0\0\x08\0\0\0\x08";
 
 // A list of numbers of two bytes.
 const SHORT_LIST: &[u8] =
-    b"NDF1\0\x04\0\x01\x01p\0\0\0\x08\0\x02\x01a\ninteger[n]\0\0\0\x02\0\0\0\0\x01n\x07integer\0\0\0\x04\0\0\0\x04";
+    b"NDF1\0\x04\0\x01\x01p\0\0\0\x08\0\x02\x01a\ninteger[n]\0\0\0\x02\0\0\0\0\
+      \x01n\x07integer\0\0\0\x04\0\0\0\x04";
 
 // A boolean of 4 bytes.
 const TRUTH: &[u8] = b"NDF1\0\x04\0\x01\x01p\0\0\0\x04\0\x01\x01b\x07boolean\0\0\0\x04\0\0\0\0";
 
 // Two records `e` of a number and a string.
-const PAIRS: &[u8] =
-    b"NDF1\0\x04\0\x02\x01e\0\0\0\x08\0\x02\x01k\x07integer\0\0\0\x01\0\0\0\0\x01s\x06string\0\0\0\x04\0\0\0\x04\x01r\0\0\0\x10\0\x01\x01p\x04e[2]\0\0\0\x08\0\0\0\0";
+const PAIRS: &[u8] = b"NDF1\0\x04\0\x02\x01e\0\0\0\x08\0\x02\x01k\x07integer\0\0\0\x01\0\0\0\0\
+      \x01s\x06string\0\0\0\x04\0\0\0\x04\x01r\0\0\0\x10\0\x01\x01p\x04e[2]\0\0\0\x08\0\0\0\0";
 
 // A list `v` of strings behind its count.
 const WORDS: &[u8] =
-    b"NDF1\0\x04\0\x01\x01p\0\0\0\x08\0\x02\x01n\x10unsigned integer\0\0\0\x04\0\0\0\0\x01v\x09string[n]\0\0\0\x04\0\0\0\x04";
+    b"NDF1\0\x04\0\x01\x01p\0\0\0\x08\0\x02\x01n\x10unsigned integer\0\0\0\x04\0\0\0\0\
+      \x01v\x09string[n]\0\0\0\x04\0\0\0\x04";
 
 // A record `e` and a list of `e`.
-const NESTED: &[u8] =
-    b"NDF1\0\x04\0\x02\x01e\0\0\0\x08\0\x02\x01k\x07integer\0\0\0\x04\0\0\0\0\x01s\x06string\0\0\0\x04\0\0\0\x04\x01r\0\0\0\x10\0\x03\x01o\x01e\0\0\0\x08\0\0\0\0\x01l\x04e[n]\0\0\0\x08\0\0\0\x08\x01n\x07integer\0\0\0\x04\0\0\0\x0c";
+const NESTED: &[u8] = b"NDF1\0\x04\0\x02\x01e\0\0\0\x08\0\x02\x01k\x07integer\0\0\0\x04\0\0\0\0\
+      \x01s\x06string\0\0\0\x04\0\0\0\x04\x01r\0\0\0\x10\0\x03\x01o\x01e\0\0\0\x08\0\0\0\0\
+      \x01l\x04e[n]\0\0\0\x08\0\0\0\x08\x01n\x07integer\0\0\0\x04\0\0\0\x0c";
 
 const CHECKS: [(&[u8], &[u8], &str); 16] = [
     (TEXTS, b"\n\0\0\0\x08\0\0\0a\0b\0", "block place t"),

@@ -1,12 +1,14 @@
 //! The walk of a record: fields as listed, elements by index. Each block starts at or after the
 //! mark, which then moves to the block's end.
 
-ghost use Rattle.std.specs.Prelude.{◌≡◌, ◌+◌, ◌*◌, ◌^◌, ◌≤◌, ◌<◌, [], ◌∷◌, ◌++◌, length, Some, IsSome, IfOk};
+ghost use Rattle.std.specs.Prelude.{◌≡◌, ◌+◌, ◌*◌, ◌^◌, ◌≤◌, ◌<◌, [], ◌∷◌, ◌++◌, length, Some};
+ghost use Rattle.std.specs.Prelude.{IsSome, IfOk};
 ghost use Rattle.evp_format.specs.Tree.{tree_of, length_of};
 ghost use Rattle.evp_format.specs.WellLaid.{IsWellLaid, HasBaseSize, depth, part_depth};
 ghost use Rattle.evp_record.specs.Class.{field_at};
 ghost use Rattle.evp_record.specs.Marks.{marked};
-ghost use Rattle.evp_record.specs.Walks.{part_in, walk_field, walk_part, walk_elements, walk_counted, walk_record, walk_text, IsCountedAt};
+ghost use Rattle.evp_record.specs.Walks.{is_plain, part_in, walk_field, walk_part, walk_elements};
+ghost use Rattle.evp_record.specs.Walks.{walk_counted, walk_record, walk_text, IsCountedAt};
 ghost use Rattle.evp_format.specs.declared.place.PlaceStep.{PlaceStep};
 ghost use Rattle.evp_format.specs.declared.field.Field.{Field};
 
@@ -143,7 +145,7 @@ impl<'a> Walk<'a> {
             from place.now count 0 mark) }
         ensures mark_in { IfOk result (λ end. end ≤ length self.now.bytes.now) }
     {
-        if let Base::Number(_) = field.base {
+        if self.is_plain(field) {
             return Ok(mark);
         }
         let mut mark = mark;
@@ -177,8 +179,11 @@ impl<'a> Walk<'a> {
             at (place.now ++ step ∷ []) mark) }
         ensures mark_in { IfOk result (λ end. end ≤ length self.now.bytes.now) }
     {
+        if self.is_plain(field) {
+            return Ok(mark);
+        }
         match field.base {
-            Base::Number(_) => Ok(mark),
+            Base::Number(_) => unreachable!(),
             Base::Text => self.text(at, place, step, mark),
             Base::Nested(type_number) => {
                 let spot = Spot {
@@ -187,6 +192,19 @@ impl<'a> Walk<'a> {
                 };
                 self.record(spot, &place.with(step), mark)
             }
+        }
+    }
+
+    // Whether nothing inside an element of the field can fail, since it has no pointer.
+    fn is_plain(&self, field: &Field) -> bool
+        requires { HasBaseSize self.now.format.now.pointer self.now.format.now.types
+            field.now.base field.now.size }
+        ensures { result ≡ is_plain self.now.format.now field.now.base }
+    {
+        match field.base {
+            Base::Number(_) => true,
+            Base::Text => false,
+            Base::Nested(type_number) => self.format.leads(type_number).is_empty(),
         }
     }
 

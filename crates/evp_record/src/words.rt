@@ -8,7 +8,7 @@ ghost use Rattle.evp_format.specs.WellLaid.{IsWellLaid};
 
 use evp_base::{Kind, get_number};
 use evp_format::Format;
-use memchr::memchr;
+use memchr::memchr_iter;
 
 // The number that stands at `at`.
 pub(crate) fn number_at(format: &Format, bytes: &[u8], at: usize, kind: Kind, size: u32) -> i128
@@ -30,11 +30,11 @@ pub(crate) fn pointer_at(format: &Format, bytes: &[u8], at: usize) -> usize
     number_at(format, bytes, at, Kind::Unsigned, size) as usize
 }
 
-// How many bytes stand before the first zero byte, where there is one.
-#[tactic(auto, using(crate::proofs::Zeros::zeros))]
+// How many bytes stand before the first zero byte, where there is one. The iterator looks near
+// first, since most texts are short.
 pub(crate) fn zero_at(bytes: &[u8]) -> Option<usize>
     ensures value { result ≡ option_map length (until_zero bytes.now) }
     ensures within { IfSome result (λ n. n < length bytes.now) }
 {
-    memchr(0, bytes)
+    memchr_iter(0, bytes).next()
 }

@@ -10,14 +10,17 @@ use Rattle.evp_record.proofs.fields.count_at.Goals as goal
 use Rattle.evp_record.proofs.fields.count_at.Goals.{In-Number}
 
 place : (c : In-Number) → LaidAt c.args.format.now c.args.spot.type_number c.args.count c.field_at-field.result.now
-place c = laid_at c.args.format.now c.args.spot.type_number c.args.count c.field_at-field.result.now c.requires.laid c.field_at-field.ensures.value
+place c = laid_at c.args.format.now c.args.spot.type_number c.args.count c.field_at-field.result.now c.requires.laid
+    c.field_at-field.ensures.value
 
 allowed : (c : In-Number) → IsTrue (is_size_of c.in-Number.kind c.field_at-field.result.now.size)
-allowed c = size_of_number _ _ c.field_at-field.result.now.base c.field_at-field.result.now.size c.in-Number.kind (place c).laid.size_allowed c.in-Number.is
+allowed c = size_of_number _ _ c.field_at-field.result.now.base c.field_at-field.result.now.size c.in-Number.kind
+    (place c).laid.size_allowed c.in-Number.is
 
 single : (c : In-Number) → c.field_at-field.result.now.shape ≡ One
 single c =
-    let same : c.requires.count_there.field ≡ c.field_at-field.result.now = cc (c.requires.count_there.there, c.field_at-field.ensures.value) in
+    let same : c.requires.count_there.field ≡ c.field_at-field.result.now = cc
+    (c.requires.count_there.there, c.field_at-field.ensures.value) in
     let P : Field → Type 0 = λ f. f.shape ≡ One in
     subst P same c.requires.count_there.single
 
@@ -33,7 +36,8 @@ number_at-requires-clause-inside c =
 pub returns-clause-value : goal.returns-clause-value
 returns-clause-value c =
     let fits : SFits w128 c.number_at.result = search rules in
-    let read = count_number-number c.args.format.now c.args.bytes.now c.args.spot c.args.count c.field_at-field.result.now c.in-Number.kind (place (goal.at.returns-clause-value c).In-Number) c.in-Number.is in
+    let read = count_number-number c.args.format.now c.args.bytes.now c.args.spot c.args.count c.field_at-field.result.now c.in-Number.kind
+    (place (goal.at.returns-clause-value c).In-Number) c.in-Number.is in
     to_z-of_z w128 c.number_at.result fits ∙ c.number_at.ensures.value ∙ sym read
 
 pub returns-clause-bound : goal.returns-clause-bound

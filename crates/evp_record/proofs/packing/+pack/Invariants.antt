@@ -22,11 +22,13 @@ decreases-pack_element l = 5 * l.type_number
 
 abbrev pub invariant-pack_elements-loop-k : goal.invariant-pack_elements-loop-k
 invariant-pack_elements-loop-k l =
-    IsPackingList l.format l.field l.at l.initial.out.items (list_pieces l.format l.field l.at (elements_of_values l.values) 0 (length l.initial.out.items)) l.out.items l.k
+    IsPackingList l.format l.field l.at l.initial.out.items (list_pieces l.format l.field l.at (elements_of_values l.values) 0
+    (length l.initial.out.items)) l.out.items l.k
     (elements_of_values (drop l.k l.values))
 
 abbrev pub invariant-pack_record-loop-k : goal.invariant-pack_record-loop-k
 invariant-pack_record-loop-k l =
     IsPackingRecord l.format l.at (length_of (tree_of l.format l.type_number)) (entries_of_pairs l.pairs) l.initial.out.items
-    (record_pieces l.format l.type_number l.at (entries_of_pairs l.pairs) (length l.initial.out.items)) l.out.items (branches_of (trees l.format.types) (drop l.k l.fields))
+    (record_pieces l.format l.type_number l.at (entries_of_pairs l.pairs) (length l.initial.out.items)) l.out.items
+    (branches_of (trees l.format.types) (drop l.k l.fields))
     (entries_of_pairs (drop l.k l.pairs))

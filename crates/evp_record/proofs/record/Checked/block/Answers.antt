@@ -8,7 +8,8 @@ fits c =
     let held = c.args.self.now in
     let field = c.field-field.result.now in
     let whole =
-    block_inside held c.args.spot c.args.index field c.length-count.result c.field-field.ensures.laid c.requires.reached c.field-field.ensures.value c.requires.class c.length-count.ensures (omega arith) in
+    block_inside held c.args.spot c.args.index field c.length-count.result c.field-field.ensures.laid c.requires.reached
+    c.field-field.ensures.value c.requires.class c.length-count.ensures (omega arith) in
     omega (arith, whole, c.start-from.ensures)
 
 pub overflow_add-result : goal.overflow_add-result
@@ -30,6 +31,8 @@ returns c =
     let from = c.start-from.result in
     let size = c.length-count.result * field.size in
     let taken : from + size - from ≡ size = omega arith in
-    pieces_read held c.args.spot c.args.index field _ c.length-count.result from c.field-field.ensures.laid c.requires.reached c.field-field.ensures.value c.requires.class c.length-count.ensures
+    pieces_read held c.args.spot c.args.index field _ c.length-count.result from c.field-field.ensures.laid c.requires.reached
+    c.field-field.ensures.value c.requires.class c.length-count.ensures
     (λ _. c.start-from.ensures)
-    (ap (λ (n : ℕ). take n (drop from c.bytes-2.result.now)) taken ∙ ap (λ (bytes : List ℕ). take size (drop from bytes)) c.bytes-2.ensures.value)
+    (ap (λ (n : ℕ). take n (drop from c.bytes-2.result.now)) taken
+    ∙ ap (λ (bytes : List ℕ). take size (drop from bytes)) c.bytes-2.ensures.value)

@@ -25,7 +25,8 @@ overflow_cast-result c =
     omega (arith, few, own)
 
 pub returns-clause-count : goal.returns-clause-count
-returns-clause-count c = long c ∙ ap length (sym (type_fields-found c.args.self.now.layout c.args.spot.type_number c.index-types-from.result (there c)))
+returns-clause-count c = long c
+    ∙ ap length (sym (type_fields-found c.args.self.now.layout c.args.spot.type_number c.index-types-from.result (there c)))
 
 pub returns-clause-laid : goal.returns-clause-laid
 returns-clause-laid c = laid c

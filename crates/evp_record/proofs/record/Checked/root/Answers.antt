@@ -20,5 +20,9 @@ pub returns-clause-value : goal.returns-clause-value
 returns-clause-value c =
     let held = c.args.self.now in
     let same = ap (λ (l : Layout). l.types) c.format.ensures.value in
-    ap (λ (spot : Spot). value_at held spot) (sym (spot_of_last held.layout c.types.result.now c.format.result.now.types c.types.ensures.value same))
+    ap (λ (spot : Spot). value_at held spot)
+    (sym (spot_of_last held.layout c.types.result.now c.format.result.now.types c.types.ensures.value same))
     ∙ ap value_or_null (viewed_root held c.format.ensures.kept.viewed)
+
+pub returns-clause-laid : goal.returns-clause-laid
+returns-clause-laid c = subst IsWellLaid c.format.ensures.value c.types.ensures.laid

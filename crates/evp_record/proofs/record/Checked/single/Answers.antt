@@ -7,7 +7,8 @@ returns-clause-stands c =
     let field = c.field-field.result.now in
     let found = c.field-field.ensures in
     let r = part_read held c.args.spot c.args.index field found.laid c.requires.reached found.value in
-    single_stands held c.args.spot c.args.index field r c.requires.reached (shape_of_single held.layout c.args.spot.type_number c.args.index field found.value c.requires.class)
+    single_stands held c.args.spot c.args.index field r c.requires.reached
+    (shape_of_single held.layout c.args.spot.type_number c.args.index field found.value c.requires.class)
 
 pub returns-clause-value : goal.returns-clause-value
 returns-clause-value c =
@@ -15,4 +16,5 @@ returns-clause-value c =
     let field = c.field-field.result.now in
     let found = c.field-field.ensures in
     let r = part_read held c.args.spot c.args.index field found.laid c.requires.reached found.value in
-    single_value held c.args.spot c.args.index field r (shape_of_single held.layout c.args.spot.type_number c.args.index field found.value c.requires.class)
+    single_value held c.args.spot c.args.index field r (shape_of_single held.layout c.args.spot.type_number c.args.index field found.value
+    c.requires.class)

@@ -4,7 +4,7 @@ use Rattle.evp_format.specs.Viewing.{view_tree, image_of}
 use Rattle.evp_record.specs.Marks.{marked}
 use Rattle.evp_record.specs.Walks.{walk_elements}
 use Rattle.evp_record.proofs.Marked.{walk_fields}
-use Rattle.evp_record.proofs.Ranks.{rank}
+use Rattle.evp_format.proofs.LaidBases.{rank}
 use Rattle.evp_record.proofs.walk.Walk.+walk.Given as goal
 
 abbrev pub decreases-record : goal.decreases-record
@@ -26,7 +26,8 @@ decreases-part l = rank l.field.now.base
 abbrev pub invariant-record-loop-index : goal.invariant-record-loop-index
 invariant-record-loop-index l =
     (marked (walk_fields l.self.format.now l.self.bytes.now l.spot l.place l.index l.mark)
-    ≡ marked (view_tree (image_of l.self.format.now l.self.bytes.now) (tree_of l.self.format.now l.spot.type_number) l.spot.at l.place l.initial.mark))
+    ≡ marked (view_tree (image_of l.self.format.now l.self.bytes.now) (tree_of l.self.format.now l.spot.type_number) l.spot.at l.place
+    l.initial.mark))
     × (l.mark ≤ length l.self.bytes.now)
 
 -- and so do the elements that are left

@@ -1,5 +1,6 @@
 -- Lengths and blocks of lists.
-use Rattle.std.proofs.Common.{◌≡◌, int_lt, ℕ, zero, suc, ◌+◌, ◌*◌, ◌<◌, ◌≤◌, ℤ, pos, negsuc, nat_abs, ◌≤ℤ◌, Bool, true, false, not, nat_eq, List, [], ◌∷◌, length, get_or, Some, None, Option, if◌then◌else◌, refl, sym, ap, ◌∙◌, arith}
+use Rattle.std.proofs.Common.{◌≡◌, int_lt, ℕ, zero, suc, ◌+◌, ◌*◌, ◌<◌, ◌≤◌, ℤ, pos, negsuc, nat_abs, ◌≤ℤ◌, Bool, true, false, not, nat_eq}
+use Rattle.std.proofs.Common.{List, [], ◌∷◌, length, get_or, Some, None, Option, if◌then◌else◌, refl, sym, ap, ◌∙◌, arith}
 use Rattle.std.proofs.Math.Nat.{mul-le-mul_left}
 use Rattle.std.proofs.lemmas.Bool.{eqb-true, lt-ltb, ltb-false, ltb-true, not-false}
 use Rattle.std.proofs.lemmas.Int.{ints}
@@ -18,7 +19,8 @@ pub list_end-large : (limit n element_size size : ℕ) → 0 < element_size → 
 list_end-large limit zero element_size size some large = absurd (omega arith)
 list_end-large limit (suc n) element_size size some large =
     let above = count_above (suc n) element_size some in
-    ap (λ (t : Bool). if t then None else Some (next_block size + suc n * element_size)) (lt-ltb limit (next_block size + suc n * element_size) (omega (arith, above, large)))
+    ap (λ (t : Bool). if t then None else Some (next_block size + suc n * element_size))
+    (lt-ltb limit (next_block size + suc n * element_size) (omega (arith, above, large)))
 
 pub count_of-values : (values : List Value) → count_of (elements_of_values values) ≡ length values
 count_of-values [] = refl
@@ -28,7 +30,8 @@ not_not : (b : Bool) → b ≡ not (not b)
 not_not true = refl
 not_not false = refl
 
-pub has_length-counted : (count : ℤ) (elements : Elements) → pos 0 ≤ℤ count → nat_eq (count_of elements) (nat_abs count) ≡ has_length count (Some elements)
+pub has_length-counted : (count : ℤ) (elements : Elements) → pos 0 ≤ℤ count
+    → nat_eq (count_of elements) (nat_abs count) ≡ has_length count (Some elements)
 has_length-counted (pos n) elements above = not_not (nat_eq (count_of elements) n)
 has_length-counted (negsuc n) elements above = absurd (omega (arith, ints))
 
@@ -56,7 +59,9 @@ not_below (pos n) test = omega (arith, ints)
 not_below (negsuc n) test = absurd (cc)
 
 -- a partner of the wanted length
-pub length_wanted : (count : ℕ) (partner : Option Elements) (values : List Value) → has_other_length count partner ≡ false → Some (elements_of_values values) ≡ partner → length values ≡ count
+pub length_wanted : (count : ℕ) (partner : Option Elements) (values : List Value) → has_other_length count partner ≡ false
+    → Some (elements_of_values values) ≡ partner → length values ≡ count
 length_wanted count partner values counted is =
     let here : not (nat_eq (count_of (elements_of_values values)) count) ≡ false = ap (has_other_length count) is ∙ counted in
-    sym (count_of-values values) ∙ eqb-true (count_of (elements_of_values values)) count (not-false (nat_eq (count_of (elements_of_values values)) count) here)
+    sym (count_of-values values) ∙ eqb-true (count_of (elements_of_values values)) count
+    (not-false (nat_eq (count_of (elements_of_values values)) count) here)

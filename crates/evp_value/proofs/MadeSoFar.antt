@@ -1,45 +1,28 @@
 -- A record that is being made: what was made so far, followed by what is left.
-use Rattle.std.proofs.Common.{◌≡◌, ℕ, zero, suc, ◌+◌, ◌*◌, ◌≤◌, ◌<◌, ℤ, Bool, List, [], ◌∷◌, ◌++◌, length, take, Some, refl, sym, ap, ◌∙◌, subst, arith, add-one, inl, inr, Result, Ok, Err, ◌-◌}
-use Rattle.std.proofs.lemmas.List.{length-take}
+use Rattle.std.proofs.Common.{◌≡◌, ℕ, suc, ◌+◌, ◌≤◌, ◌<◌, ℤ, Bool, List, [], ◌∷◌, ◌++◌, Some, refl, sym, ap, ◌∙◌}
+use Rattle.std.proofs.Common.{subst, arith, add-one, Result, Ok, Err}
 use Rattle.std.proofs.lemmas.Bool.{lt-ltb, le-ltb}
-use Rattle.std.proofs.lemmas.Bool.Decides.{nat_tests}
 use Rattle.std.specs.Prelude.{slice_get}
-use Rattle.evp_base.proofs.Complement.{width}
-use Rattle.evp_base.specs.declared.kind.Kind.TheVariants.{Int, Unsigned, Char, Boolean, Enumeration}
-use Rattle.evp_format.specs.declared.field.Base.{Base}
-use Rattle.evp_format.specs.declared.field.Base.TheVariants.{Number, Text, Nested}
 use Rattle.evp_format.specs.declared.field.Field.{Field}
 use Rattle.evp_format.specs.declared.place.PlaceStep.{PlaceStep}
 use Rattle.evp_format.specs.declared.place.PlaceStep.TheVariants.{At}
 use Rattle.evp_format.specs.declared.record_type.RecordType.{RecordType}
 use Rattle.evp_format.specs.declared.value.Value.{Value}
-use Rattle.evp_format.specs.Converting.{convert, Made, made, unfit, large, then_make, unless_large, make_elements, make_tree, make_branches, numbers_from}
+use Rattle.evp_format.specs.Converting.{convert, Made, made, unfit, large, then_make, unless_large, make_elements, make_tree, make_branches}
+use Rattle.evp_format.specs.Converting.{numbers_from}
 use Rattle.evp_format.specs.Datum.{Datum, rec, Elements, empty_list, element, Entries, empty_record, entry, named, entries_of}
 use Rattle.evp_format.specs.Layout.{Layout}
-use Rattle.evp_format.specs.Tree.{Tree, part_in, part_of, trees, tree_of, root_of, length_of, branches_of}
+use Rattle.evp_format.specs.Tree.{Tree, trees, tree_of, root_of, length_of, branches_of}
 use Rattle.evp_format.specs.ValueView.{datum_of, elements_from, elements_of_values, entries_from}
-use Rattle.evp_format.specs.WellLaid.{IsWellLaid, HasBaseSize, depth, part_depth, branches_depth}
-use Rattle.evp_format.proofs.Trees.{slice_get-below, slice_get-take, tree_of-resolved}
+use Rattle.evp_format.specs.WellLaid.{IsWellLaid, depth, branches_depth}
+use Rattle.evp_format.proofs.Trees.{tree_of-resolved}
 use Rattle.evp_value.specs.declared.refused.Refused.{Refused}
 use Rattle.evp_value.specs.declared.refused.Refused.TheVariants.{Unfit, Large, Memory}
 use Rattle.evp_value.specs.Making.{Gives, IsMadeSomehow, IsRefusal, make_field}
 
--- how deep the types of a field may lead
-abbrev pub rank : Base → ℕ
-rank (Number kind) = 0
-rank Text = 0
-rank (Nested type_number) = 8 * type_number + 8
-
-pub rank-le : (pointer : ℕ) (types : List RecordType) (n : ℕ) (base : Base) (size : ℕ) → HasBaseSize pointer (take n types) base size → rank base ≤ 8 * n
-rank-le pointer types n (Number kind) size sized = omega arith
-rank-le pointer types n Text size sized = omega arith
-rank-le pointer types n (Nested m) size sized =
-    let below = slice_get-below (take n types) m sized.0 sized.1 in
-    let kept = length-take n types in
-    omega (arith, below, kept)
-
 -- a refusal is that of all that goes on from it
-pub refused_then : {A B : Type 0} (refused : Refused) (said : Made A) (next : A → ℕ → Made B) → IsRefusal refused said → IsRefusal refused (then_make said next)
+pub refused_then : {A B : Type 0} (refused : Refused) (said : Made A) (next : A → ℕ → Made B) → IsRefusal refused said
+    → IsRefusal refused (then_make said next)
 refused_then {A = A} (Unfit place) said next is = ap (λ (m : Made A). then_make m next) is
 refused_then {A = A} (Large place) said next is = ap (λ (m : Made A). then_make m next) is
 refused_then Memory said next is = tt
@@ -63,18 +46,23 @@ behind-more (first ∷ done) datum rest = ap (element first) (behind-more done d
 
 -- what was made so far, followed by what is made of those that are left
 abbrev pub elements_left : (ℕ → Datum → ℕ → Made Datum) → List Datum → ℕ → ℕ → List Value → Made Elements
-elements_left one done k size left = then_make (make_elements one (elements_of_values left) k size) (λ rest end. made (behind done rest) end)
+elements_left one done k size left = then_make (make_elements one (elements_of_values left) k size)
+    (λ rest end. made (behind done rest) end)
 
 element_joined : (done : List Datum) (datum : Datum) (rest : Made Elements)
-    → then_make (then_make rest (λ others last. made (element datum others) last)) (λ all end. made (behind done all) end) ≡ then_make rest (λ others end. made (behind (done ++ datum ∷ []) others) end)
+    → then_make (then_make rest (λ others last. made (element datum others) last)) (λ all end. made (behind done all) end)
+    ≡ then_make rest (λ others end. made (behind (done ++ datum ∷ []) others) end)
 element_joined done datum (made others size) = ap (λ (es : Elements). made es size) (behind-more done datum others)
 element_joined done datum (unfit place) = refl
 element_joined done datum (large place) = refl
 
-pub element_made : (one : ℕ → Datum → ℕ → Made Datum) (done : List Datum) (k size : ℕ) (value : Value) (left : List Value) (datum : Datum) (after : ℕ) → one k (datum_of value) size ≡ made datum after
+pub element_made : (one : ℕ → Datum → ℕ → Made Datum) (done : List Datum) (k size : ℕ) (value : Value) (left : List Value) (datum : Datum)
+    (after : ℕ) → one k (datum_of value) size ≡ made datum after
     → elements_left one done k size (value ∷ left) ≡ elements_left one (done ++ datum ∷ []) (k + 1) after left
 element_made one done k size value left datum after is =
-    ap (λ (m : Made Datum). then_make (then_make m (λ first end. then_make (make_elements one (elements_of_values left) (suc k) end) (λ rest last. made (element first rest) last))) (λ rest end. made (behind done rest) end)) is
+    ap (λ (m : Made Datum). then_make
+    (then_make m (λ first end. then_make (make_elements one (elements_of_values left) (suc k) end)
+    (λ rest last. made (element first rest) last))) (λ rest end. made (behind done rest) end)) is
     ∙ element_joined done datum (make_elements one (elements_of_values left) (suc k) after)
     ∙ ap (λ (n : ℕ). elements_left one (done ++ datum ∷ []) n after left) (sym (add-one k))
 
@@ -88,7 +76,8 @@ pub entries_behind-none : (done : List (List ℕ × Datum)) → entries_behind d
 entries_behind-none [] = refl
 entries_behind-none (pair ∷ done) = ap (entry pair.0 pair.1) (entries_behind-none done)
 
-entries_behind-more : (done : List (List ℕ × Datum)) (name : List ℕ) (datum : Datum) (rest : Entries) → entries_behind done (entry name datum rest) ≡ entries_behind (done ++ (name, datum) ∷ []) rest
+entries_behind-more : (done : List (List ℕ × Datum)) (name : List ℕ) (datum : Datum) (rest : Entries)
+    → entries_behind done (entry name datum rest) ≡ entries_behind (done ++ (name, datum) ∷ []) rest
 entries_behind-more [] name datum rest = refl
 entries_behind-more (pair ∷ done) name datum rest = ap (entry pair.0 pair.1) (entries_behind-more done name datum rest)
 
@@ -102,7 +91,8 @@ pub record Making : Type 0 where
 
 abbrev pub fields_left : Making → List (List ℕ × Datum) → ℕ → ℕ → List Field → Made Entries
 fields_left m done k size left =
-    then_make (make_branches m.limit (branches_of (trees m.layout.types) left) m.numbers k m.place m.partner size) (λ rest end. made (entries_behind done rest) end)
+    then_make (make_branches m.limit (branches_of (trees m.layout.types) left) m.numbers k m.place m.partner size)
+    (λ rest end. made (entries_behind done rest) end)
 
 -- a field of it
 abbrev pub field_of : Making → ℕ → ℕ → Field → Made Datum
@@ -115,57 +105,26 @@ field_joined done name datum (made others size) = ap (λ (es : Entries). made es
 field_joined done name datum (unfit place) = refl
 field_joined done name datum (large place) = refl
 
-pub field_made : (m : Making) (done : List (List ℕ × Datum)) (k size : ℕ) (field : Field) (left : List Field) (datum : Datum) (after : ℕ) → field_of m k size field ≡ made datum after
+pub field_made : (m : Making) (done : List (List ℕ × Datum)) (k size : ℕ) (field : Field) (left : List Field) (datum : Datum) (after : ℕ)
+    → field_of m k size field ≡ made datum after
     → fields_left m done k size (field ∷ left) ≡ fields_left m (done ++ (field.name, datum) ∷ []) (k + 1) after left
 field_made m done k size field left datum after is =
     let others = λ (end : ℕ). make_branches m.limit (branches_of (trees m.layout.types) left) m.numbers (suc k) m.place m.partner end in
-    ap (λ (first : Made Datum). then_make (then_make first (λ value end. then_make (others end) (λ rest last. made (entry field.name value rest) last))) (λ rest end. made (entries_behind done rest) end)) is
+    ap (λ (first : Made Datum). then_make
+    (then_make first (λ value end. then_make (others end) (λ rest last. made (entry field.name value rest) last)))
+    (λ rest end. made (entries_behind done rest) end)) is
     ∙ field_joined done field.name datum (others after)
     ∙ ap (λ (n : ℕ). fields_left m (done ++ (field.name, datum) ∷ []) n after left) (sym (add-one k))
 
-pub field_refused : (m : Making) (done : List (List ℕ × Datum)) (k size : ℕ) (field : Field) (left : List Field) (refused : Refused) → IsRefusal refused (field_of m k size field)
+pub field_refused : (m : Making) (done : List (List ℕ × Datum)) (k size : ℕ) (field : Field) (left : List Field) (refused : Refused)
+    → IsRefusal refused (field_of m k size field)
     → IsRefusal refused (fields_left m done k size (field ∷ left))
 field_refused m done k size field left refused is =
     let others = λ (end : ℕ). make_branches m.limit (branches_of (trees m.layout.types) left) m.numbers (suc k) m.place m.partner end in
-    refused_then refused (make_branches m.limit (branches_of (trees m.layout.types) (field ∷ left)) m.numbers k m.place m.partner size) (λ rest end. made (entries_behind done rest) end)
-    (refused_then refused (field_of m k size field) (λ value end. then_make (others end) (λ rest last. made (entry field.name value rest) last)) is)
-
--- ---- depths
-
-part_depth-branches_of : (all : List Tree) (fields : List Field) (k : ℕ) (field : Field) → slice_get fields k ≡ Some field
-    → part_depth (part_of all field.base) ≤ branches_depth (branches_of all fields)
-part_depth-branches_of all [] k field found = cc
-part_depth-branches_of all (first ∷ fields) zero field found =
-    let same : first ≡ field = cc in
-    let equal : part_depth (part_of all first.base) ≡ part_depth (part_of all field.base) = ap (λ (f : Field). part_depth (part_of all f.base)) same in
-    omega (arith, equal)
-part_depth-branches_of all (first ∷ fields) (suc k) field found =
-    let rest = part_depth-branches_of all fields k field found in
-    omega (arith, rest)
-
--- a field leads less deep than its type
-pub field_depth : (layout : Layout) (n k : ℕ) (type : RecordType) (field : Field) → IsWellLaid layout → slice_get layout.types n ≡ Some type → slice_get type.fields k ≡ Some field
-    → part_depth (part_in layout field) + 1 ≤ depth (tree_of layout n)
-field_depth layout n k type field laid there found =
-    let whole : depth (tree_of layout n) ≡ suc (branches_depth (branches_of (trees layout.types) type.fields)) = ap depth (tree_of-resolved layout n type laid there) in
-    let part = part_depth-branches_of (trees layout.types) type.fields k field found in
-    omega (arith, whole, part)
-
-pub sized_among_all : (pointer : ℕ) (types : List RecordType) (k : ℕ) (base : Base) (size : ℕ) → HasBaseSize pointer (take k types) base size → HasBaseSize pointer types base size
-sized_among_all pointer types k (Number kind) size sized = sized
-sized_among_all pointer types k Text size sized = sized
-sized_among_all pointer types k (Nested n) size sized = (sized.0, slice_get-take types k n sized.0 sized.1, sized.2)
-
-pub size_above : (layout : Layout) (base : Base) (size : ℕ) → IsWellLaid layout → HasBaseSize layout.pointer layout.types base size → 0 < size
-size_above layout (Number Int) size laid sized = (width size sized).some
-size_above layout (Number Unsigned) size laid sized = (width size sized).some
-size_above layout (Number Char) size laid sized = grind (arith, nat_tests)
-size_above layout (Number Boolean) size laid sized = (width size sized).some
-size_above layout (Number Enumeration) size laid sized = (width size sized).some
-size_above layout Text size laid sized = elim laid.pointer_allowed [ inl four ↦ omega arith | inr eight ↦ omega arith ]
-size_above layout (Nested m) size laid sized =
-    let long = (laid.each_type m sized.0 sized.1).length_allowed.0 in
-    omega (arith, long, sized.2)
+    refused_then refused (make_branches m.limit (branches_of (trees m.layout.types) (field ∷ left)) m.numbers k m.place m.partner size)
+    (λ rest end. made (entries_behind done rest) end)
+    (refused_then refused (field_of m k size field)
+    (λ value end. then_make (others end) (λ rest last. made (entry field.name value rest) last)) is)
 
 -- ---- a record
 
@@ -173,7 +132,8 @@ abbrev pub whole_record : Made Entries → Made Datum
 whole_record fields = then_make fields (λ entries after. made (rec entries) after)
 
 -- a record of a type: its numbers, then its fields
-pub record_as : (limit : ℕ) (layout : Layout) (n : ℕ) (type : RecordType) (fields : List Field) (place : List PlaceStep) (partner : Entries) (size : ℕ) → IsWellLaid layout → slice_get layout.types n ≡ Some type
+pub record_as : (limit : ℕ) (layout : Layout) (n : ℕ) (type : RecordType) (fields : List Field) (place : List PlaceStep) (partner : Entries)
+    (size : ℕ) → IsWellLaid layout → slice_get layout.types n ≡ Some type
     → fields ≡ type.fields → make_tree limit (tree_of layout n) place partner size
     ≡ then_make (numbers_from place 0 (branches_of (trees layout.types) fields) partner)
     (λ numbers none. whole_record (make_branches limit (branches_of (trees layout.types) fields) numbers 0 place partner size))
@@ -183,33 +143,40 @@ record_as limit layout n type fields place partner size laid there are =
     ap (λ (t : Tree). make_tree limit t place partner size) (tree_of-resolved layout n type laid there) ∙ ap made_of (sym are)
 
 -- where its numbers are made
-pub record_behind : (limit : ℕ) (layout : Layout) (n : ℕ) (type : RecordType) (fields : List Field) (place : List PlaceStep) (partner : Entries) (size : ℕ) (numbers : List ℤ) (none : ℕ) → IsWellLaid layout
-    → slice_get layout.types n ≡ Some type → fields ≡ type.fields → numbers_from place 0 (branches_of (trees layout.types) fields) partner ≡ made numbers none
-    → make_tree limit (tree_of layout n) place partner size ≡ whole_record (make_branches limit (branches_of (trees layout.types) fields) numbers 0 place partner size)
+pub record_behind : (limit : ℕ) (layout : Layout) (n : ℕ) (type : RecordType) (fields : List Field) (place : List PlaceStep)
+    (partner : Entries) (size : ℕ) (numbers : List ℤ) (none : ℕ) → IsWellLaid layout
+    → slice_get layout.types n ≡ Some type → fields ≡ type.fields
+    → numbers_from place 0 (branches_of (trees layout.types) fields) partner ≡ made numbers none
+    → make_tree limit (tree_of layout n) place partner size ≡ whole_record
+    (make_branches limit (branches_of (trees layout.types) fields) numbers 0 place partner size)
 record_behind limit layout n type fields place partner size numbers none laid there are is =
     record_as limit layout n type fields place partner size laid there are
-    ∙ ap (λ (m : Made (List ℤ)). then_make m (λ ns none'. whole_record (make_branches limit (branches_of (trees layout.types) fields) ns 0 place partner size))) is
+    ∙ ap (λ (m : Made (List ℤ)). then_make m
+    (λ ns none'. whole_record (make_branches limit (branches_of (trees layout.types) fields) ns 0 place partner size))) is
 
-pub depth_some : (layout : Layout) (n : ℕ) (type : RecordType) → IsWellLaid layout → slice_get layout.types n ≡ Some type → 1 ≤ depth (tree_of layout n)
+pub depth_some : (layout : Layout) (n : ℕ) (type : RecordType) → IsWellLaid layout → slice_get layout.types n ≡ Some type
+    → 1 ≤ depth (tree_of layout n)
 depth_some layout n type laid there =
-    let whole : depth (tree_of layout n) ≡ suc (branches_depth (branches_of (trees layout.types) type.fields)) = ap depth (tree_of-resolved layout n type laid there) in
+    let whole : depth (tree_of layout n) ≡ suc (branches_depth (branches_of (trees layout.types) type.fields)) = ap depth
+    (tree_of-resolved layout n type laid there) in
     omega (arith, whole)
 
 -- ---- the whole
 
-pub root_length : (layout : Layout) (type : RecordType) → IsWellLaid layout → slice_get layout.types (length layout.types - 1) ≡ Some type → length_of (root_of layout) ≡ type.length
-root_length layout type laid there = ap length_of (tree_of-resolved layout (length layout.types - 1) type laid there)
-
-pub convert_large : (layout : Layout) (value : Datum) (limit : ℕ) → limit < length_of (root_of layout) → convert layout value limit ≡ large []
+pub convert_large : (layout : Layout) (value : Datum) (limit : ℕ) → limit < length_of (root_of layout)
+    → convert layout value limit ≡ large []
 convert_large layout value limit over =
-    ap (λ (t : Bool). unless_large t [] (λ _. make_tree limit (root_of layout) [] (entries_of (Some value)) (length_of (root_of layout)))) (lt-ltb limit (length_of (root_of layout)) over)
+    ap (λ (t : Bool). unless_large t [] (λ _. make_tree limit (root_of layout) [] (entries_of (Some value)) (length_of (root_of layout))))
+    (lt-ltb limit (length_of (root_of layout)) over)
 
 pub convert_within : (layout : Layout) (value : Datum) (limit : ℕ) → length_of (root_of layout) ≤ limit
     → convert layout value limit ≡ make_tree limit (root_of layout) [] (entries_of (Some value)) (length_of (root_of layout))
 convert_within layout value limit within =
-    ap (λ (t : Bool). unless_large t [] (λ _. make_tree limit (root_of layout) [] (entries_of (Some value)) (length_of (root_of layout)))) (le-ltb limit (length_of (root_of layout)) within)
+    ap (λ (t : Bool). unless_large t [] (λ _. make_tree limit (root_of layout) [] (entries_of (Some value)) (length_of (root_of layout))))
+    (le-ltb limit (length_of (root_of layout)) within)
 
 -- of some size
-pub made_somehow : (result : Result Value Refused) (size : ℕ) (said : Made Datum) → Gives datum_of result size said → IsMadeSomehow result said
+pub made_somehow : (result : Result Value Refused) (size : ℕ) (said : Made Datum) → Gives datum_of result size said
+    → IsMadeSomehow result said
 made_somehow (Ok value) size said gives = (size, gives)
 made_somehow (Err refused) size said gives = gives

@@ -9,7 +9,6 @@ ghost use Rattle.evp_value.specs.Making.{IsRefusal, IsMadeSomehow};
 ghost use Rattle.evp_value.specs.SlowConversion.{IsSlowFault, Tells};
 
 use crate::making::{Receiver, make_record};
-use crate::partner::entries_in;
 use crate::refused::Refused;
 use crate::slow_fault::SlowFault;
 use evp_format::{Format, Place, Value, clash_of, path_of};
@@ -20,8 +19,7 @@ use std::alloc::Global;
 /// `Clash`, then `Large` at `.` where the receiver's length passes the limit; then in each record
 /// the single number fields as listed, and all other fields as listed; in an array its length, its
 /// block and its elements. The value is one of `from`; of any other the answer is what conversion
-/// by
-/// name finds in it. It is slow: it looks for each name in each record. It calls itself once for
+/// by name finds in it. It is slow: it looks for each name in each record. It calls itself once for
 /// each level of nested types, at most 16.
 pub fn convert_value(
     alloc: Global,
@@ -56,13 +54,7 @@ fn made_value(alloc: Global, format: &Format, value: &Value, limit: u32) -> Resu
         limit,
     };
     let mut size = length;
-    make_record(
-        &to,
-        last,
-        entries_in(Some(value)),
-        &Place::root(),
-        &mut size,
-    )
+    make_record(&to, last, value.entries(), &Place::root(), &mut size)
 }
 
 // The refusal with the path of its place.

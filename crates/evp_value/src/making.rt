@@ -17,7 +17,7 @@ ghost use Rattle.evp_value.specs.Making.{make_field};
 
 use crate::blocks::{block_end, has_length, list_end};
 use crate::numbers::{number_at, receiver_numbers};
-use crate::partner::{elements_in, entries_in, number_in, text_in, value_named};
+use crate::partner::{elements_in, entries_in, text_in, value_named};
 use crate::refused::Refused;
 use crate::zero::zero_elements;
 use evp_base::{Kind, Name, fits};
@@ -243,16 +243,10 @@ fn make_element(
         (datum_of partner.now) size.old) }
 {
     match field.base {
-        Base::Number(kind) => make_number(kind, field.size, number_in(partner), place),
+        Base::Number(kind) => make_number(kind, field.size, partner.number(), place),
         Base::Text => make_text(to, Some(partner), place, size),
         Base::Nested(nested) => {
-            make_record(
-                to,
-                usize::from(nested),
-                entries_in(Some(partner)),
-                &place,
-                size,
-            )
+            make_record(to, usize::from(nested), partner.entries(), &place, size)
         }
     }
 }

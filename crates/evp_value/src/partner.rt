@@ -1,7 +1,7 @@
 //! What a sender's value has for a receiver's field.
 
 ghost use Rattle.std.specs.Prelude.{◌≡◌, IfSome, option_map};
-ghost use Rattle.evp_format.specs.Datum.{named, as_number, entries_of, elements_of};
+ghost use Rattle.evp_format.specs.Datum.{named, entries_of, elements_of};
 ghost use Rattle.evp_format.specs.Converting.{number_or_default};
 ghost use Rattle.evp_format.specs.Text.{HasNoZero};
 ghost use Rattle.evp_format.specs.ValueView.{datum_of, elements_of_values, entries_of_pairs};
@@ -34,16 +34,6 @@ pub(crate) fn number_or_default(partner: Option<&Value>, fallback: i128) -> i128
     }
 }
 
-// The number of an element, or 0 where it is none.
-pub(crate) fn number_in(value: &Value) -> i128
-    ensures { result ≡ as_number (datum_of value.now) }
-{
-    match value {
-        Value::Num(number) => *number,
-        _ => 0,
-    }
-}
-
 // The bytes of a text, or `None` where there is none.
 pub(crate) fn text_in(partner: Option<&Value>) -> Option<&[u8]>
     ensures value { option_map (λ bytes. bytes.now) result
@@ -62,8 +52,8 @@ pub(crate) fn elements_in(partner: Option<&Value>) -> Option<&[Value]>
         ≡ elements_of (option_map (λ value. datum_of value.now) partner.entry) }
 {
     match partner {
-        Some(Value::List(items)) => Some(items.values.as_slice()),
-        _ => None,
+        Some(value) => value.elements(),
+        None => None,
     }
 }
 
@@ -73,7 +63,7 @@ pub(crate) fn entries_in(partner: Option<&Value>) -> &[(Name, Value)]
         entries_of (option_map (λ value. datum_of value.now) partner.entry) }
 {
     match partner {
-        Some(Value::Rec(members)) => members.pairs.as_slice(),
-        _ => &[],
+        Some(value) => value.entries(),
+        None => &[],
     }
 }

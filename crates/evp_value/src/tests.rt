@@ -87,8 +87,9 @@ fn lists_and_records_nest(rt: HostRuntime) -> Result<(), Fail> {
 const TEXT: &[u8] = b"NDF1\0\x04\0\x01\x01p\0\0\0\x04\0\x01\x01s\x06string\0\0\0\x04\0\0\0\0";
 
 // Two records `e` of a number `k` whose default is 5.
-const FIVES: &[u8] =
-    b"NDF2\0\x04\0\x02\x01e\0\0\0\x04\0\x01\x01k\x07integer\0\0\0\x04\0\0\0\0\0\0\0\0\0\0\0\0\0\0\0\0\0\0\0\x05\x01r\0\0\0\x08\0\x01\x01p\x04e[2]\0\0\0\x04\0\0\0\0\0\0\0\0\0\0\0\0\0\0\0\0\0\0\0\0";
+const FIVES: &[u8] = b"NDF2\0\x04\0\x02\x01e\0\0\0\x04\0\x01\
+      \x01k\x07integer\0\0\0\x04\0\0\0\0\0\0\0\0\0\0\0\0\0\0\0\0\0\0\0\x05\x01r\0\0\0\x08\0\x01\
+      \x01p\x04e[2]\0\0\0\x04\0\0\0\0\0\0\0\0\0\0\0\0\0\0\0\0\0\0\0\0";
 
 #[test]
 fn zeros_of_formats(rt: HostRuntime) -> Result<(), Fail> {

@@ -22,7 +22,8 @@ pub fn value_text(alloc: Global, value: &Value) -> Result<String, Memory>
 
 #[cycle(text)]
 fn write_value(text: &mut String, value: &Value) -> Result<(), AllocError>
-    ensures { OnOk result (string_bytes text.new ≡ string_bytes text.old ++ value_text (datum_of value.now)) }
+    ensures { OnOk result (string_bytes text.new ≡ string_bytes text.old
+        ++ value_text (datum_of value.now)) }
 {
     match value {
         Value::Num(number) => write!(text, "{number}"),
@@ -36,7 +37,8 @@ fn write_value(text: &mut String, value: &Value) -> Result<(), AllocError>
 // The elements of a list in brackets.
 #[cycle(text)]
 fn write_elements(text: &mut String, values: &[Value]) -> Result<(), AllocError>
-    ensures { OnOk result (string_bytes text.new ≡ string_bytes text.old ++ (codes "[" ++ elements_text (elements_of_values values.now) ++ codes "]")) }
+    ensures { OnOk result (string_bytes text.new ≡ string_bytes text.old
+        ++ (codes "[" ++ elements_text (elements_of_values values.now) ++ codes "]")) }
 {
     text.push_str("[")?;
     for (k, value) in values.iter().enumerate() {
@@ -51,7 +53,8 @@ fn write_elements(text: &mut String, values: &[Value]) -> Result<(), AllocError>
 // The fields of a record in braces.
 #[cycle(text)]
 fn write_entries(text: &mut String, pairs: &[(Name, Value)]) -> Result<(), AllocError>
-    ensures { OnOk result (string_bytes text.new ≡ string_bytes text.old ++ (codes "{" ++ entries_text (entries_of_pairs pairs.now) ++ codes "}")) }
+    ensures { OnOk result (string_bytes text.new ≡ string_bytes text.old
+        ++ (codes "{" ++ entries_text (entries_of_pairs pairs.now) ++ codes "}")) }
 {
     text.push_str("{")?;
     for (k, pair) in pairs.iter().enumerate() {
@@ -66,7 +69,8 @@ fn write_entries(text: &mut String, pairs: &[(Name, Value)]) -> Result<(), Alloc
 // A field as `name=value`.
 #[cycle(text)]
 fn write_entry(text: &mut String, name: &Name, value: &Value) -> Result<(), AllocError>
-    ensures { OnOk result (string_bytes text.new ≡ string_bytes text.old ++ (name.now ++ codes "=" ++ value_text (datum_of value.now))) }
+    ensures { OnOk result (string_bytes text.new ≡ string_bytes text.old
+        ++ (name.now ++ codes "=" ++ value_text (datum_of value.now))) }
 {
     text.push_str(name.as_str())?;
     text.push_str("=")?;

@@ -12,9 +12,9 @@ use evp_base::Memory;
 use evp_format::{Base, Field, Format, Items, Members, Shape, Value};
 use std::alloc::Global;
 
-/// The zero of a format: each single number field has its stated default, else 0; each text is null,
-/// a static array has as many zeros as it has elements, and a counted array none, since a count has
-/// no default. It calls itself once for each level of nested types, at most 16.
+/// The zero of a format: each single number field has its stated default, else 0; each text is
+/// null, a static array has as many zeros as it has elements, and a counted array none, since a
+/// count has no default. It calls itself once for each level of nested types, at most 16.
 pub fn zero_value(alloc: Global, format: &Format) -> Result<Value, Memory>
     ensures { IfOk result (λ value. datum_of value ≡ zero_of format.now) }
 {
@@ -45,7 +45,8 @@ fn zero_field(
     type_number: usize,
     field: Field,
 ) -> Result<Value, Memory>
-    requires { HasBaseSize format.now.pointer (take type_number format.now.types) field.base field.size }
+    requires { HasBaseSize format.now.pointer (take type_number format.now.types) field.base
+        field.size }
     ensures { IfOk result (λ value. datum_of value ≡ zero_of_field (trees format.now.types) field) }
 {
     match field.shape {
@@ -72,8 +73,10 @@ pub(crate) fn zero_elements(
     field: Field,
     count: u32,
 ) -> Result<Vec<Value>, Memory>
-    requires { HasBaseSize format.now.pointer (take type_number format.now.types) field.base field.size }
-    ensures { IfOk result (λ values. elements_of_values values.items ≡ copies count (zero_part (part_of (trees format.now.types) field.base))) }
+    requires { HasBaseSize format.now.pointer (take type_number format.now.types) field.base
+        field.size }
+    ensures { IfOk result (λ values. elements_of_values values.items
+        ≡ copies count (zero_part (part_of (trees format.now.types) field.base))) }
 {
     let mut values = Vec::with_capacity(alloc, count as usize)?;
     for _ in 0..count {
@@ -90,8 +93,10 @@ fn zero_element(
     type_number: usize,
     field: Field,
 ) -> Result<Value, Memory>
-    requires { HasBaseSize format.now.pointer (take type_number format.now.types) field.base field.size }
-    ensures { IfOk result (λ value. datum_of value ≡ zero_part (part_of (trees format.now.types) field.base)) }
+    requires { HasBaseSize format.now.pointer (take type_number format.now.types) field.base
+        field.size }
+    ensures { IfOk result (λ value. datum_of value
+        ≡ zero_part (part_of (trees format.now.types) field.base)) }
 {
     match field.base {
         Base::Number(_) => Ok(Value::Num(0)),

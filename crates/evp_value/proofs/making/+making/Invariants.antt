@@ -4,7 +4,8 @@ use Rattle.evp_format.specs.Converting.{make_branches, make_elements}
 use Rattle.evp_format.specs.Tree.{branches_of, trees}
 use Rattle.evp_format.specs.ValueView.{datum_of, elements_of_values, entries_of_pairs}
 use Rattle.evp_value.specs.Making.{make_at}
-use Rattle.evp_value.proofs.MadeSoFar.{Making, rank, elements_left, fields_left}
+use Rattle.evp_format.proofs.LaidBases.{rank}
+use Rattle.evp_value.proofs.MadeSoFar.{Making, elements_left, fields_left}
 use Rattle.evp_value.proofs.making.+making.Given as goal
 
 abbrev pub decreases-make_record : goal.decreases-make_record
@@ -40,6 +41,13 @@ invariant-make_elements-loop-k l =
 -- the fields so far, followed by what is made of the others, are what is made of all
 abbrev pub invariant-make_record-loop-k : goal.invariant-make_record-loop-k
 invariant-make_record-loop-k l =
-    let making : Making = record { limit = l.to.limit; layout = l.to.format.now; numbers = l.numbers.items; place = l.place; partner = entries_of_pairs l.partner } in
+    let making : Making = record {
+      limit = l.to.limit;
+      layout = l.to.format.now;
+      numbers = l.numbers.items;
+      place = l.place;
+      partner = entries_of_pairs l.partner;
+    } in
     fields_left making (map (λ (pair : List ℕ × Value). (pair.0, datum_of pair.1)) l.pairs.items) l.k l.size (drop l.k l.fields)
-    ≡ make_branches l.to.limit (branches_of (trees l.to.format.now.types) l.fields) l.numbers.items 0 l.place (entries_of_pairs l.partner) l.initial.size
+    ≡ make_branches l.to.limit (branches_of (trees l.to.format.now.types) l.fields) l.numbers.items 0 l.place (entries_of_pairs l.partner)
+    l.initial.size

@@ -4,7 +4,8 @@ use Rattle.evp_format.specs.ValueView.{datum_of, elements_of_values, entries_of_
 use Rattle.evp_format.specs.declared.value.Value.{Value, the_lemmas}
 use Rattle.evp_value.proofs.Texts.{grows, field_text, elements_text-first, elements_text-next, entries_text-first, entries_text-next}
 use Rattle.evp_value.proofs.text.+text.Goals as goal
-use Rattle.evp_value.proofs.text.+text.Goals.{write_elements-then-k-gt0+in_ok-push_str-2, write_elements-else-k-gt0, write_entries-then-k-gt0+in_ok-push_str-2, write_entries-else-k-gt0}
+use Rattle.evp_value.proofs.text.+text.Goals.{write_elements-then-k-gt0+in_ok-push_str-2, write_elements-else-k-gt0}
+use Rattle.evp_value.proofs.text.+text.Goals.{write_entries-then-k-gt0+in_ok-push_str-2, write_entries-else-k-gt0}
 
 pub write_elements-loop-k-preserved : goal.write_elements-loop-k-preserved
 write_elements-loop-k-preserved t c =
@@ -18,7 +19,8 @@ write_elements-loop-k-preserved t c =
     c.in_ok-write_value.ensures ∙ ap (λ (v : Value). string_bytes c.if-k-gt0.text ++ value_text (datum_of v)) c.index-values-k.is in
     elim c.if-k-gt0.branch [
       | write_elements-then-k-gt0+in_ok-push_str-2 w ↦
-          grows start (first ++ codes ",") next written (ap string_bytes w.text-is ∙ grows start first (codes ",") w.in_ok-push_str-2.ensures.bytes c.loop-k.invariant refl)
+          grows start (first ++ codes ",") next written (ap string_bytes w.text-is
+          ∙ grows start first (codes ",") w.in_ok-push_str-2.ensures.bytes c.loop-k.invariant refl)
           (elements_text-next values k value (omega arith) c.loop-k-test.true)
       | write_elements-else-k-gt0 w ↦
           grows start first next written (ap string_bytes w.text-is ∙ c.loop-k.invariant)
@@ -37,7 +39,8 @@ write_entries-loop-k-preserved t c =
     c.in_ok-write_entry.ensures ∙ ap (λ (p : List ℕ × Value). string_bytes c.if-k-gt0.text ++ field_text p) c.index-pairs-k.is in
     elim c.if-k-gt0.branch [
       | write_entries-then-k-gt0+in_ok-push_str-2 w ↦
-          grows start (first ++ codes ",") next written (ap string_bytes w.text-is ∙ grows start first (codes ",") w.in_ok-push_str-2.ensures.bytes c.loop-k.invariant refl)
+          grows start (first ++ codes ",") next written (ap string_bytes w.text-is
+          ∙ grows start first (codes ",") w.in_ok-push_str-2.ensures.bytes c.loop-k.invariant refl)
           (entries_text-next pairs k pair (omega arith) c.loop-k-test.true)
       | write_entries-else-k-gt0 w ↦
           grows start first next written (ap string_bytes w.text-is ∙ c.loop-k.invariant)
@@ -46,5 +49,6 @@ write_entries-loop-k-preserved t c =
 
 pub write_value-returns-in-Rec : goal.write_value-returns-in-Rec
 write_value-returns-in-Rec t c =
-    let e : value_text (datum_of c.args.value.now) ≡ codes "{" ++ entries_text (entries_of_pairs c.as_slice-in-Rec.result.now) ++ codes "}" = rw (c.in-Rec.is, c.as_slice-in-Rec.ensures.value) (search (rules, the_lemmas)) in
+    let e : value_text (datum_of c.args.value.now) ≡ codes "{" ++ entries_text (entries_of_pairs c.as_slice-in-Rec.result.now)
+    ++ codes "}" = rw (c.in-Rec.is, c.as_slice-in-Rec.ensures.value) (search (rules, the_lemmas)) in
     rw e c.write_entries.ensures

@@ -19,7 +19,8 @@ abbrev pub decreases-zero_element : goal.decreases-zero_element
 decreases-zero_element l = 4 * l.type_number
 
 abbrev pub invariant-zero_elements-loop : goal.invariant-zero_elements-loop
-invariant-zero_elements-loop l = elements_of_values l.values.items ≡ copies l.counter (zero_part (part_of (trees l.format.types) l.field.base))
+invariant-zero_elements-loop l = elements_of_values l.values.items
+    ≡ copies l.counter (zero_part (part_of (trees l.format.types) l.field.base))
 
 abbrev pub invariant-zero_record-loop-field : goal.invariant-zero_record-loop-field
 invariant-zero_record-loop-field l = seen_pairs l.pairs.items ≡ zero_pairs (trees l.format.types) (take l.field-index l.fields)

@@ -1,5 +1,6 @@
 -- A token behind an operand leads on exactly where the grammar has it there.
-use Rattle.std.proofs.Common.{◌≡◌, ℕ, suc, ◌+◌, List, [], ◌∷◌, Bool, true, false, ◌&&◌, ◌⊎◌, inl, inr, Option, Some, None, refl, sym, ◌∙◌, ap, subst, arith, nat_eq}
+use Rattle.std.proofs.Common.{◌≡◌, ℕ, suc, ◌+◌, List, [], ◌∷◌, Bool, true, false, ◌&&◌, ◌⊎◌, inl, inr, Option, Some, None, refl, sym, ◌∙◌}
+use Rattle.std.proofs.Common.{ap, subst, arith, nat_eq}
 use Rattle.std.proofs.lemmas.Grind.{common_steps}
 use Rattle.evp_expr.specs.declared.operator.Operator.{Operator}
 use Rattle.evp_expr.specs.declared.operator.Level.{Level}
@@ -49,7 +50,10 @@ pub record Joins (l : Level) (p : Option Pending) (tok : Token) (o : Operator) :
 pub joins_some : (l : Level) (p : Option Pending) (tok : Token) (o : Operator) → joins l p tok ≡ Some o → Joins l p tok o
 joins_some l p (token.Operator k) o e = go (nat_eq (rank (level_of k)) (rank l)) (takes_more l p) refl refl e
   where
-    go : (same_rank may : Bool) → nat_eq (rank (level_of k)) (rank l) ≡ same_rank → takes_more l p ≡ may → (elim (same_rank && may) [ true ↦ Some k | false ↦ None ]) ≡ Some o → Joins l p (token.Operator k) o
+    go : (same_rank may : Bool) → nat_eq (rank (level_of k)) (rank l) ≡ same_rank → takes_more l p ≡ may → (elim (same_rank && may) [
+      | true ↦ Some k
+      | false ↦ None
+    ]) ≡ Some o → Joins l p (token.Operator k) o
     go true true s m e = let q : k ≡ o = cc in record {
       is_operator = ap token.Operator q;
       of_level = rank-injective _ _ (grind (arith, common_steps));
@@ -79,10 +83,13 @@ operator_rejects o = record {
   no_comma = refl;
 }
 
-pub after_rung_none : (at : ℕ) (tok : Token) (l : Level) (p : Option Pending) (fs : List Frame) (ready : List Tree) → joins l p tok ≡ None → after at tok (frame.Rung l p ∷ fs) ready ≡ after at tok fs (settle p ready)
+pub after_rung_none : (at : ℕ) (tok : Token) (l : Level) (p : Option Pending) (fs : List Frame) (ready : List Tree) → joins l p tok ≡ None
+    → after at tok (frame.Rung l p ∷ fs) ready ≡ after at tok fs (settle p ready)
 after_rung_none at tok l p fs ready j = rw (j, after)
 
-pub after_rung_some : (at : ℕ) (tok : Token) (l : Level) (p : Option Pending) (o : Operator) (fs : List Frame) (ready : List Tree) → joins l p tok ≡ Some o → after at tok (frame.Rung l p ∷ fs) ready ≡ Some (state mode.Operand (above l (frame.Rung l (Some (record { at = at; operator = o })) ∷ fs)) (settle p ready))
+pub after_rung_some : (at : ℕ) (tok : Token) (l : Level) (p : Option Pending) (o : Operator) (fs : List Frame) (ready : List Tree)
+    → joins l p tok ≡ Some o → after at tok (frame.Rung l p ∷ fs) ready
+    ≡ Some (state mode.Operand (above l (frame.Rung l (Some (record { at = at; operator = o })) ∷ fs)) (settle p ready))
 after_rung_some at tok l p o fs ready j = rw (j, after)
 
 -- where the tokens complete the next state, with the same levels in all
@@ -104,7 +111,8 @@ none_tail Product d lt ts us m f = inl (refl, f)
 complete_ends : {d : ℕ} {lt : Tree} {ts us : List Placed} {m : Tree} → Front d (Complete lt) ts us m → (ts ≡ us) × (lt ≡ m)
 complete_ends complete = (refl, refl)
 
-some_tail : (l : Level) (p : Pending) (d : ℕ) (lt : Tree) (ts us : List Placed) (m : Tree) → Front d (behind l lt) ts us m → TailOf l (Some p) d lt ts us m
+some_tail : (l : Level) (p : Pending) (d : ℕ) (lt : Tree) (ts us : List Placed) (m : Tree) → Front d (behind l lt) ts us m
+    → TailOf l (Some p) d lt ts us m
 unfolding TailOf
 some_tail Disjunction p d lt ts us m f = inl (refl, f)
 some_tail Conjunction p d lt ts us m f = inl (refl, f)
@@ -114,35 +122,55 @@ some_tail Product p d lt ts us m f = inl (refl, f)
 
 -- what stands behind a phrase where a token follows
 BehindCases : ℕ → Level → Tree → ℕ → Token → List Placed → List Placed → Tree → Type 0
-BehindCases d l lt at tok ts us m = ((placed at tok ∷ ts ≡ us) × (lt ≡ m)) ⊎ ((o : Operator) × (vs : List Placed) × (r : Tree) × (tok ≡ token.Operator o) × (level_of o ≡ l) × Front d (operand l) ts vs r × Front d (behind l (joined at o lt r)) vs us m)
+BehindCases d l lt at tok ts us m =
+    ((placed at tok ∷ ts ≡ us) × (lt ≡ m)) ⊎ ((o : Operator) × (vs : List Placed) × (r : Tree) × (tok ≡ token.Operator o) × (level_of o ≡ l)
+    × Front d (operand l) ts vs r × Front d (behind l (joined at o lt r)) vs us m)
 
-behind_cases : {d : ℕ} {l : Level} {lt : Tree} {at : ℕ} {tok : Token} {ts us : List Placed} {m : Tree} → Front d (Behind l lt) (placed at tok ∷ ts) us m → BehindCases d l lt at tok ts us m
+behind_cases : {d : ℕ} {l : Level} {lt : Tree} {at : ℕ} {tok : Token} {ts us : List Placed} {m : Tree}
+    → Front d (Behind l lt) (placed at tok ∷ ts) us m → BehindCases d l lt at tok ts us m
 unfolding BehindCases
 behind_cases no_more = inl (refl, refl)
 behind_cases (more {op = o} {us = vs} {right = r} e f b) = inr (o, vs, r, refl, e, f, b)
 
-module _ (at : ℕ) (tok : Token) (l : Level) (p : Option Pending) (fs : List Frame) (ready : List Tree) (d : ℕ) (ts : List Placed) (t lt : Tree) (trees : List Tree) (settles : settle p ready ≡ lt ∷ trees) (o : Ordered (rank l) fs trees) where
+module _ (at : ℕ) (tok : Token) (l : Level) (p : Option Pending) (fs : List Frame) (ready : List Tree) (d : ℕ) (ts : List Placed)
+    (t lt : Tree) (trees : List Tree) (settles : settle p ready ≡ lt ∷ trees) (o : Ordered (rank l) fs trees) where
   -- the phrase ends before the token
-  rung_ends : Goes (after at tok fs (lt ∷ trees)) (d + levels fs) ts t → Goes (after at tok (frame.Rung l p ∷ fs) ready) (d + levels fs) ts t
+  rung_ends : Goes (after at tok fs (lt ∷ trees)) (d + levels fs) ts t
+      → Goes (after at tok (frame.Rung l p ∷ fs) ready) (d + levels fs) ts t
   rung_ends (s, k, e, q, c) = go (option_cases (joins l p tok))
     where
-      go : ((joins l p tok ≡ None) ⊎ ((x : Operator) × (joins l p tok ≡ Some x))) → Goes (after at tok (frame.Rung l p ∷ fs) ready) (d + levels fs) ts t
+      go : ((joins l p tok ≡ None) ⊎ ((x : Operator) × (joins l p tok ≡ Some x)))
+          → Goes (after at tok (frame.Rung l p ∷ fs) ready) (d + levels fs) ts t
       go (inl j) = (s, k, after_rung_none at tok l p fs ready j ∙ (ap (λ x. after at tok fs x) settles ∙ e), q, c)
       go (inr (x, j)) =
           let h = joins_some l p tok x j in
-          let rejects : Rejects (rank l) tok = subst (λ y. Rejects (rank l) y) (sym h.is_operator) (subst (λ y. Rejects (rank y) (token.Operator x)) h.of_level (operator_rejects x)) in
+          let rejects : Rejects (rank l) tok = subst (λ y. Rejects (rank l) y) (sym h.is_operator)
+          (subst (λ y. Rejects (rank y) (token.Operator x)) h.of_level (operator_rejects x)) in
           let none = after_none at tok (rank l) rejects (rank l) fs trees (lt ∷ trees) (omega arith) o in
           absurd (let q : ◌≡◌ {A = Option State} None (Some s) = sym none ∙ e in cc)
 
   -- the token goes on with the phrase
-  rung_joins : (x : Operator) → tok ≡ token.Operator x → level_of x ≡ l → takes_more l p ≡ true → Continues (operand l) d (frame.Rung l (Some (record { at = at; operator = x })) ∷ fs) (lt ∷ trees) ts t → Goes (after at tok (frame.Rung l p ∷ fs) ready) (d + levels fs) ts t
+  rung_joins : (x : Operator) → tok ≡ token.Operator x → level_of x ≡ l → takes_more l p ≡ true
+      → Continues (operand l) d (frame.Rung l (Some (record { at = at; operator = x })) ∷ fs) (lt ∷ trees) ts t
+      → Goes (after at tok (frame.Rung l p ∷ fs) ready) (d + levels fs) ts t
   rung_joins x e level may c =
-      let j : joins l p tok ≡ Some x = subst (λ y. joins l p y ≡ Some x) (sym e) (subst (λ y. takes_more y p ≡ true → joins y p (token.Operator x) ≡ Some x) level (joins_own p x) may) in
-      (state mode.Operand (above l (frame.Rung l (Some (record { at = at; operator = x })) ∷ fs)) (lt ∷ trees), d, after_rung_some at tok l p x fs ready j ∙ ap (λ y. Some (state mode.Operand (above l (frame.Rung l (Some (record { at = at; operator = x })) ∷ fs)) y)) settles, ap (λ y. d + y) (levels-above l _), to_unary l d _ (lt ∷ trees) ts t c)
+      let j : joins l p tok ≡ Some x = subst (λ y. joins l p y ≡ Some x) (sym e)
+      (subst (λ y. takes_more y p ≡ true → joins y p (token.Operator x) ≡ Some x) level (joins_own p x) may) in (
+        state mode.Operand (above l (frame.Rung l (Some (record { at = at; operator = x })) ∷ fs)) (lt ∷ trees),
+        d,
+        after_rung_some at tok l p x fs ready j
+            ∙ ap (λ y. Some (state mode.Operand (above l (frame.Rung l (Some (record { at = at; operator = x })) ∷ fs)) y)) settles,
+        ap (λ y. d + y) (levels-above l _),
+        to_unary l d _ (lt ∷ trees) ts t c,
+      )
 
-  rung_goes : (us : List Placed) (m : Tree) → (Resumes d fs trees lt (placed at tok ∷ ts) t → Goes (after at tok fs (lt ∷ trees)) (d + levels fs) ts t) → TailOf l p d lt (placed at tok ∷ ts) us m → Resumes d fs trees m us t → Goes (after at tok (frame.Rung l p ∷ fs) ready) (d + levels fs) ts t
+  rung_goes : (us : List Placed) (m : Tree)
+      → (Resumes d fs trees lt (placed at tok ∷ ts) t → Goes (after at tok fs (lt ∷ trees)) (d + levels fs) ts t)
+      → TailOf l p d lt (placed at tok ∷ ts) us m → Resumes d fs trees m us t
+      → Goes (after at tok (frame.Rung l p ∷ fs) ready) (d + levels fs) ts t
   unfolding TailOf BehindCases
-  rung_goes us m ih (inr (e, k)) r = rung_ends (ih (subst (λ y. Resumes d fs trees lt y t) (sym e) (subst (λ y. Resumes d fs trees y us t) (sym k) r)))
+  rung_goes us m ih (inr (e, k)) r = rung_ends
+      (ih (subst (λ y. Resumes d fs trees lt y t) (sym e) (subst (λ y. Resumes d fs trees y us t) (sym k) r)))
   rung_goes us m ih (inl (may, f)) r = go (behind_cases f)
     where
       go : BehindCases d l lt at tok ts us m → Goes (after at tok (frame.Rung l p ∷ fs) ready) (d + levels fs) ts t
@@ -150,14 +178,17 @@ module _ (at : ℕ) (tok : Token) (l : Level) (p : Option Pending) (fs : List Fr
       go (inr (x, vs, right, e, level, f, b)) = rung_joins x e level may (vs, right, f, (us, m, b, r))
 
 -- a token behind an operand, as the grammar has it, leads on
-pub after_completes : (n at : ℕ) (tok : Token) (fs : List Frame) (trees : List Tree) (l : Tree) (d : ℕ) (ts : List Placed) (t : Tree) → Ordered n fs trees → Resumes d fs trees l (placed at tok ∷ ts) t → Goes (after at tok fs (l ∷ trees)) (d + levels fs) ts t
+pub after_completes : (n at : ℕ) (tok : Token) (fs : List Frame) (trees : List Tree) (l : Tree) (d : ℕ) (ts : List Placed) (t : Tree)
+    → Ordered n fs trees → Resumes d fs trees l (placed at tok ∷ ts) t → Goes (after at tok fs (l ∷ trees)) (d + levels fs) ts t
 after_completes n at tok [] [] l d ts t o r = absurd (let e : ◌≡◌ {A = List Placed} (placed at tok ∷ ts) [] = r.0 in cc)
 after_completes n at tok [] (x ∷ trees) l d ts t o r = elim o [ ]
 after_completes n at tok (frame.Rung level None ∷ fs) trees l d ts t o (us, m, f, r) =
-    rung_goes at tok level None fs (l ∷ trees) d ts t l trees refl o.1 us m (after_completes (rank level) at tok fs trees l d ts t o.1) (none_tail level d l _ us m f) r
+    rung_goes at tok level None fs (l ∷ trees) d ts t l trees refl o.1 us m (after_completes (rank level) at tok fs trees l d ts t o.1)
+    (none_tail level d l _ us m f) r
 after_completes n at tok (frame.Rung level (Some p) ∷ fs) [] l d ts t o r = elim o [ ]
 after_completes n at tok (frame.Rung level (Some p) ∷ fs) (left ∷ trees) l d ts t o (us, m, f, r) =
-    rung_goes at tok level (Some p) fs (l ∷ left ∷ trees) d ts t (joined p.at p.operator left l) trees refl o.1 us m (after_completes (rank level) at tok fs trees (joined p.at p.operator left l) d ts t o.1) (some_tail level p d _ _ us m f) r
+    rung_goes at tok level (Some p) fs (l ∷ left ∷ trees) d ts t (joined p.at p.operator left l) trees refl o.1 us m
+    (after_completes (rank level) at tok fs trees (joined p.at p.operator left l) d ts t o.1) (some_tail level p d _ _ us m f) r
 after_completes n at tok (frame.Sign place s ∷ fs) trees l d ts t o r =
     let g = after_completes 5 at tok fs trees (signed place s l) (suc d) ts t o.1 r in
     (g.0, g.1, g.2, (let e : g.1 + levels g.0.frames ≡ suc d + levels fs = g.3 in omega arith), g.4)
@@ -172,14 +203,24 @@ after_completes n at tok (frame.Index place ∷ fs) (p ∷ trees) l d ts t o (en
     let first : placed at tok ≡ placed end token.CloseBracket = cc in
     let closes : tok ≡ token.CloseBracket = ap (λ x. x.token) first in
     let rest : us ≡ ts = cc in
-    subst (λ x. Goes (after at x (frame.Index place ∷ fs) (l ∷ p ∷ trees)) (d + suc (levels fs)) ts t) (sym closes)
-    (state mode.AfterPath fs (index p place l ∷ trees), suc d, refl, omega arith, (vs, m, subst (λ x. Front (suc d) (BehindPath (index p place l)) x vs m) rest f, r))
+    subst (λ x. Goes (after at x (frame.Index place ∷ fs) (l ∷ p ∷ trees)) (d + suc (levels fs)) ts t) (sym closes) (
+      state mode.AfterPath fs (index p place l ∷ trees),
+      suc d,
+      refl,
+      omega arith,
+      (vs, m, subst (λ x. Front (suc d) (BehindPath (index p place l)) x vs m) rest f, r),
+    )
 after_completes n at tok (frame.Length ∷ fs) trees l d ts t o (end, us, e, r) =
     let first : placed at tok ≡ placed end token.CloseParen = cc in
     let closes : tok ≡ token.CloseParen = ap (λ x. x.token) first in
     let rest : us ≡ ts = cc in
-    subst (λ x. Goes (after at x (frame.Length ∷ fs) (l ∷ trees)) (d + suc (levels fs)) ts t) (sym closes)
-    (state mode.AfterOperand fs (length_of l ∷ trees), suc d, refl, omega arith, subst (λ x. Resumes (suc d) fs trees (length_of l) x t) rest r)
+    subst (λ x. Goes (after at x (frame.Length ∷ fs) (l ∷ trees)) (d + suc (levels fs)) ts t) (sym closes) (
+      state mode.AfterOperand fs (length_of l ∷ trees),
+      suc d,
+      refl,
+      omega arith,
+      subst (λ x. Resumes (suc d) fs trees (length_of l) x t) rest r,
+    )
 after_completes n at tok (frame.Same ∷ fs) trees l d ts t o (comma, quote, end, text, us, e, r) =
     let first : placed at tok ≡ placed comma token.Comma = cc in
     let closes : tok ≡ token.Comma = ap (λ x. x.token) first in

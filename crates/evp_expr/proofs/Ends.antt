@@ -11,7 +11,8 @@ use Rattle.evp_expr.specs.declared.state.Mode.TheVariants as mode
 use Rattle.evp_expr.specs.Levels.{rank}
 use Rattle.evp_expr.specs.Tree.{Tree, number, name, field, index, length_of, same, signed, joined}
 use Rattle.evp_expr.specs.Lexing.{placed}
-use Rattle.evp_expr.specs.Grammar.{Behind, Unary, Atom, Path, BehindPath, Front, behind, no_more, complete, unsigned, literal, path, first, path_end}
+use Rattle.evp_expr.specs.Grammar.{Behind, Unary, Atom, Path, BehindPath, Front, behind, no_more, complete, unsigned, literal, path, first}
+use Rattle.evp_expr.specs.Grammar.{path_end}
 use Rattle.evp_expr.specs.Steps.{close_all, finish_at}
 use Rattle.evp_expr.specs.Standing.{Ordered, StandsAt}
 use Rattle.evp_expr.proofs.Completes.{Resumes, CompletesAt}
@@ -29,27 +30,50 @@ resumable n d (frame.Rung level None ∷ fs) trees l o =
     let w = resumable (rank level) d fs trees l o.1 in (w.0, w.1, (w.0, l, no_more, w.2))
 resumable n d (frame.Rung level (Some p) ∷ fs) [] l o = elim o [ ]
 resumable n d (frame.Rung level (Some p) ∷ fs) (left ∷ trees) l o =
-    let w = resumable (rank level) d fs trees (joined p.at p.operator left l) o.1 in (w.0, w.1, (w.0, joined p.at p.operator left l, behind_ends level d w.0 _, w.2))
+    let w =
+    resumable (rank level) d fs trees (joined p.at p.operator left l) o.1 in
+    (w.0, w.1, (w.0, joined p.at p.operator left l, behind_ends level d w.0 _, w.2))
 resumable n d (frame.Sign at s ∷ fs) trees l o = resumable 5 (suc d) fs trees (signed at s l) o.1
 resumable n d (frame.Group ∷ fs) trees l o =
     let w = resumable 5 (suc d) fs trees l o in (placed 0 token.CloseParen ∷ w.0, w.1, (0, w.0, refl, w.2))
 resumable n d (frame.Index at ∷ fs) [] l o = elim o [ ]
 resumable n d (frame.Index at ∷ fs) (p ∷ trees) l o =
-    let w = resumable 5 (suc d) fs trees (index p at l) o in (placed 0 token.CloseBracket ∷ w.0, w.1, (0, w.0, w.0, index p at l, refl, path_end, w.2))
+    let w =
+    resumable 5 (suc d) fs trees (index p at l) o in (
+      placed 0 token.CloseBracket ∷ w.0,
+      w.1,
+      (0, w.0, w.0, index p at l, refl, path_end, w.2),
+    )
 resumable n d (frame.Length ∷ fs) trees l o =
     let w = resumable 5 (suc d) fs trees (length_of l) o in (placed 0 token.CloseParen ∷ w.0, w.1, (0, w.0, refl, w.2))
 resumable n d (frame.Same ∷ fs) trees l o =
-    let w = resumable 5 (suc d) fs trees (same l []) o in (placed 0 token.Comma ∷ placed 0 (token.Text []) ∷ placed 0 token.CloseParen ∷ w.0, w.1, (0, 0, 0, [], w.0, refl, w.2))
+    let w =
+    resumable 5 (suc d) fs trees (same l []) o in (
+      placed 0 token.Comma ∷ placed 0 (token.Text []) ∷ placed 0 token.CloseParen ∷ w.0,
+      w.1,
+      (0, 0, 0, [], w.0, refl, w.2),
+    )
 
-pub completable : (m : Mode) (d : ℕ) (fs : List Frame) (trees : List Tree) → StandsAt m fs trees → (ts : List Placed) × (t : Tree) × CompletesAt m d fs trees ts t
+pub completable : (m : Mode) (d : ℕ) (fs : List Frame) (trees : List Tree) → StandsAt m fs trees → (ts : List Placed) × (t : Tree)
+    × CompletesAt m d fs trees ts t
 unfolding Completable
 completable mode.Operand d fs trees o =
-    let w = resumable 5 d fs trees (number (pos 0)) o in (placed 0 (token.Number (pos 0)) ∷ w.0, w.1, (w.0, number (pos 0), unsigned literal, w.2))
+    let w =
+    resumable 5 d fs trees (number (pos 0)) o in (
+      placed 0 (token.Number (pos 0)) ∷ w.0,
+      w.1,
+      (w.0, number (pos 0), unsigned literal, w.2),
+    )
 completable mode.PathStart d fs trees o =
     let w = resumable 5 d fs trees (name 0 []) o in (placed 0 (token.Name []) ∷ w.0, w.1, (w.0, name 0 [], first path_end, w.2))
 completable mode.FieldName d fs [] o = elim o [ ]
 completable mode.FieldName d fs (p ∷ trees) o =
-    let w = resumable 5 d fs trees (field p 0 []) o in (placed 0 (token.Name []) ∷ w.0, w.1, (0, [], w.0, refl, (w.0, field p 0 [], path_end, w.2)))
+    let w =
+    resumable 5 d fs trees (field p 0 []) o in (
+      placed 0 (token.Name []) ∷ w.0,
+      w.1,
+      (0, [], w.0, refl, (w.0, field p 0 [], path_end, w.2)),
+    )
 completable (mode.AfterName at word) d fs trees o =
     let w = resumable 5 d fs trees (name at word) o in (w.0, w.1, (w.0, name at word, path (first path_end), w.2))
 completable mode.AfterPath d fs [] o = elim o [ ]
@@ -58,7 +82,12 @@ completable mode.AfterPath d fs (p ∷ trees) o =
 completable mode.AfterOperand d fs [] o = elim o [ ]
 completable mode.AfterOperand d fs (l ∷ trees) o = resumable 5 d fs trees l o
 completable mode.TextOfSame d (frame.Same ∷ fs) (p ∷ trees) o =
-    let w = resumable 5 (suc d) fs trees (same p []) o in (placed 0 (token.Text []) ∷ placed 0 token.CloseParen ∷ w.0, w.1, (0, 0, [], w.0, refl, w.2))
+    let w =
+    resumable 5 (suc d) fs trees (same p []) o in (
+      placed 0 (token.Text []) ∷ placed 0 token.CloseParen ∷ w.0,
+      w.1,
+      (0, 0, [], w.0, refl, w.2),
+    )
 completable mode.TextOfSame d _ _ o = elim o [ ]
 completable (mode.EndOfSame text) d (frame.Same ∷ fs) (p ∷ trees) o =
     let w = resumable 5 (suc d) fs trees (same p text) o in (placed 0 token.CloseParen ∷ w.0, w.1, (0, w.0, refl, w.2))
@@ -78,10 +107,12 @@ pending_nothing Product f = behind_nothing f
 path_nothing : {d : ℕ} {p : Tree} {us : List Placed} {m : Tree} → Front d (BehindPath p) [] us m → ([] ≡ us) × (p ≡ m)
 path_nothing path_end = (refl, refl)
 
-name_nothing : {d at : ℕ} {word : List ℕ} {us : List Placed} {m : Tree} → Front d Atom (placed at (token.Name word) ∷ []) us m → ([] ≡ us) × (name at word ≡ m)
+name_nothing : {d at : ℕ} {word : List ℕ} {us : List Placed} {m : Tree} → Front d Atom (placed at (token.Name word) ∷ []) us m → ([] ≡ us)
+    × (name at word ≡ m)
 name_nothing (path (first f)) = path_nothing f
 
-moved : (d : ℕ) (fs : List Frame) (trees : List Tree) (us : List Placed) (l m t : Tree) → ([] ≡ us) × (l ≡ m) → Resumes d fs trees m us t → Resumes d fs trees l [] t
+moved : (d : ℕ) (fs : List Frame) (trees : List Tree) (us : List Placed) (l m t : Tree) → ([] ≡ us) × (l ≡ m) → Resumes d fs trees m us t
+    → Resumes d fs trees l [] t
 moved d fs trees us l m t (e, k) r =
     subst (λ y. Resumes d fs trees l y t) (sym e) (subst (λ y. Resumes d fs trees y us t) (sym k) r)
 
@@ -95,7 +126,8 @@ no_unary : {d : ℕ} {us : List Placed} {m : Tree} → Front d Unary [] us m →
 no_unary (unsigned f) = no_atom f
 
 -- the text may end where the grammar has its end
-pub closes : (n d : ℕ) (fs : List Frame) (trees : List Tree) (l t : Tree) → Ordered n fs trees → Resumes d fs trees l [] t → close_all fs (l ∷ trees) ≡ Some t
+pub closes : (n d : ℕ) (fs : List Frame) (trees : List Tree) (l t : Tree) → Ordered n fs trees → Resumes d fs trees l [] t
+    → close_all fs (l ∷ trees) ≡ Some t
 closes n d [] [] l t o r = ap Some r.1
 closes n d [] (x ∷ trees) l t o r = elim o [ ]
 closes n d (frame.Rung level None ∷ fs) trees l t o (us, m, f, r) =
@@ -110,7 +142,8 @@ closes n d (frame.Index at ∷ fs) (p ∷ trees) l t o (end, us, vs, m, e, f, r)
 closes n d (frame.Length ∷ fs) trees l t o (end, us, e, r) = absurd (cc)
 closes n d (frame.Same ∷ fs) trees l t o (comma, quote, end, text, us, e, r) = absurd (cc)
 
-pub finishes : (m : Mode) (d : ℕ) (fs : List Frame) (trees : List Tree) (t : Tree) → StandsAt m fs trees → CompletesAt m d fs trees [] t → finish_at m fs trees ≡ Some t
+pub finishes : (m : Mode) (d : ℕ) (fs : List Frame) (trees : List Tree) (t : Tree) → StandsAt m fs trees → CompletesAt m d fs trees [] t
+    → finish_at m fs trees ≡ Some t
 finishes mode.Operand d fs trees t o (us, m, f, r) = absurd (no_unary f)
 finishes mode.PathStart d fs trees t o (us, m, f, r) = absurd (no_path f)
 finishes mode.FieldName d fs [] t o c = elim o [ ]
@@ -128,7 +161,8 @@ finishes (mode.EndOfSame text) d (frame.Same ∷ fs) (p ∷ trees) t o (end, us,
 finishes (mode.EndOfSame text) d _ _ t o c = elim o [ ]
 
 -- where it ends, the grammar has its end
-closed : (n d : ℕ) (fs : List Frame) (trees : List Tree) (l t : Tree) → Ordered n fs trees → close_all fs (l ∷ trees) ≡ Some t → Resumes d fs trees l [] t
+closed : (n d : ℕ) (fs : List Frame) (trees : List Tree) (l t : Tree) → Ordered n fs trees → close_all fs (l ∷ trees) ≡ Some t
+    → Resumes d fs trees l [] t
 closed n d [] [] l t o e = (refl, cc)
 closed n d [] (x ∷ trees) l t o e = elim o [ ]
 closed n d (frame.Rung level None ∷ fs) trees l t o e = ([], l, no_more, closed (rank level) d fs trees l t o.1 e)
@@ -142,7 +176,8 @@ closed n d (frame.Index at ∷ fs) (p ∷ trees) l t o e = absurd (cc)
 closed n d (frame.Length ∷ fs) trees l t o e = absurd (cc)
 closed n d (frame.Same ∷ fs) trees l t o e = absurd (cc)
 
-pub finished : (m : Mode) (d : ℕ) (fs : List Frame) (trees : List Tree) (t : Tree) → StandsAt m fs trees → finish_at m fs trees ≡ Some t → CompletesAt m d fs trees [] t
+pub finished : (m : Mode) (d : ℕ) (fs : List Frame) (trees : List Tree) (t : Tree) → StandsAt m fs trees → finish_at m fs trees ≡ Some t
+    → CompletesAt m d fs trees [] t
 finished mode.Operand d fs trees t o e = absurd (cc)
 finished mode.PathStart d fs trees t o e = absurd (cc)
 finished mode.FieldName d fs [] t o e = elim o [ ]

@@ -1,12 +1,14 @@
 -- A text has one answer: a tree or a fault.
-use Rattle.std.proofs.Common.{◌≡◌, ℕ, zero, suc, Bool, true, false, nat_lt, ◌-◌, ◌<◌, ◌≤◌, List, [], ◌∷◌, ◌++◌, length, append_assoc, ◌⊎◌, inl, inr, Some, None, refl, sym, ◌∙◌, ap, subst, arith}
+use Rattle.std.proofs.Common.{◌≡◌, ℕ, zero, suc, Bool, true, false, nat_lt, ◌-◌, ◌<◌, ◌≤◌, List, [], ◌∷◌, ◌++◌, length, append_assoc, ◌⊎◌}
+use Rattle.std.proofs.Common.{inl, inr, Some, None, refl, sym, ◌∙◌, ap, subst, arith}
 use Rattle.std.proofs.lemmas.Grind.{common_steps}
 use Rattle.std.proofs.lemmas.List.{append-nil}
 use Rattle.evp_expr.specs.declared.fault.ExprFault.{ExprFault}
 use Rattle.evp_expr.specs.declared.fault.ExprFault.TheVariants as fault
 use Rattle.evp_expr.specs.declared.token.Placed.{Placed}
 use Rattle.evp_expr.specs.Tree.{Tree}
-use Rattle.evp_expr.specs.Lexing.{placed, is_blank, Lexeme, Whole, Missing, TooLarge, lexeme, Scan, Tokens, Faulty, behind_token, scan, tokens_of}
+use Rattle.evp_expr.specs.Lexing.{placed, is_blank, Lexeme, Whole, Missing, TooLarge, lexeme, Scan, Tokens, Faulty, behind_token, scan}
+use Rattle.evp_expr.specs.Lexing.{tokens_of}
 use Rattle.evp_expr.specs.Grammar.{IsExpression, BeginsExpression, most_levels}
 use Rattle.evp_expr.specs.Parsing.{HasTree, HasFault, BeginsSome, StopsAt, IsUnexpected, IsDeep, IsCut, most_bytes}
 use Rattle.evp_expr.specs.Laws.{OneTree, TreeOrFault, OneFault, EachTextIsAnswered}
@@ -32,7 +34,9 @@ expression_begins tokens tree e =
 
 -- two places at which a list is split are one, or one stands behind the other
 SplitCases : List Placed → Placed → List Placed → Placed → Type 0
-SplitCases fore p bs q = ((fore ≡ bs) × (p ≡ q)) ⊎ (((mid : List Placed) × (bs ≡ (fore ++ p ∷ []) ++ mid)) ⊎ ((mid : List Placed) × (fore ≡ (bs ++ q ∷ []) ++ mid)))
+SplitCases fore p bs q =
+    ((fore ≡ bs) × (p ≡ q)) ⊎ (((mid : List Placed) × (bs ≡ (fore ++ p ∷ []) ++ mid))
+    ⊎ ((mid : List Placed) × (fore ≡ (bs ++ q ∷ []) ++ mid)))
 
 split_cases : (fore bs : List Placed) (p q : Placed) (us vs : List Placed) → fore ++ p ∷ us ≡ bs ++ q ∷ vs → SplitCases fore p bs q
 unfolding SplitCases
@@ -68,7 +72,8 @@ one_place tokens at bt a b =
 unexpected_deep : (tokens : List Placed) (at bt : ℕ) → IsUnexpected tokens at → ¬ IsDeep tokens bt
 unexpected_deep tokens at bt u d =
     let h = one_stop tokens at bt u.first d.first in
-    u.unexpected (subst (λ x. BeginsSome (x ++ u.first.token ∷ [])) (sym h.0) (subst (λ x. BeginsSome (d.first.before ++ x ∷ [])) (sym h.1) d.expected))
+    u.unexpected (subst (λ x. BeginsSome (x ++ u.first.token ∷ [])) (sym h.0)
+    (subst (λ x. BeginsSome (d.first.before ++ x ∷ [])) (sym h.1) d.expected))
 
 stop_fault_stops : (tokens : List Placed) (f : ExprFault) → StopFault tokens f → (at : ℕ) × StopsAt tokens at
 stop_fault_stops tokens (fault.Unexpected at) h = (at, h.first)
@@ -88,7 +93,8 @@ one_stop_fault tokens _ g u v = absurd u
 expression_reached : (tokens : List Placed) (tree : Tree) → IsExpression most_levels tokens tree → (s : State) × Reads tokens s
 expression_reached tokens tree e = go (ending_cases (run start tokens))
   where
-    go : (((s : State) × (run start tokens ≡ Reached s)) ⊎ ((f : ExprFault) × (run start tokens ≡ Stopped f))) → (s : State) × Reads tokens s
+    go : (((s : State) × (run start tokens ≡ Reached s)) ⊎ ((f : ExprFault) × (run start tokens ≡ Stopped f))) → (s : State)
+        × Reads tokens s
     go (inl (s, h)) = (s, run_reaches tokens s h)
     go (inr (f, h)) =
         let w = stop_fault_stops tokens f (run_stops tokens f h) in
@@ -109,7 +115,8 @@ one_tree_law text a b h k =
 ScannedFault : List Placed → ℕ → ExprFault → Type 0
 ScannedFault tokens end f = StopFault tokens f ⊎ (IsCut tokens × (f ≡ fault.Unexpected end))
 
-no_scanned_fault : (tokens : List Placed) (tree : Tree) (end : ℕ) (f : ExprFault) → IsExpression most_levels tokens tree → ¬ ScannedFault tokens end f
+no_scanned_fault : (tokens : List Placed) (tree : Tree) (end : ℕ) (f : ExprFault) → IsExpression most_levels tokens tree
+    → ¬ ScannedFault tokens end f
 unfolding ScannedFault
 no_scanned_fault tokens tree end f e (inl h) =
     let w = stop_fault_stops tokens f h in begins_stops tokens w.0 (expression_begins tokens tree e) w.1
@@ -128,7 +135,8 @@ one_scanned_fault tokens end f g (inr (cut, q)) (inr (other, r)) = q ∙ sym r
 data FaultCases (text : List ℕ) (f : ExprFault) : Type 0 where
   by_length : f ≡ fault.Long → most_bytes < length text → FaultCases text f
   by_tokens : length text ≤ most_bytes → tokens_of text ≡ Faulty f → FaultCases text f
-  by_grammar : (tokens : List Placed) → length text ≤ most_bytes → tokens_of text ≡ Tokens tokens → ScannedFault tokens (length text) f → FaultCases text f
+  by_grammar : (tokens : List Placed) → length text ≤ most_bytes → tokens_of text ≡ Tokens tokens → ScannedFault tokens (length text) f
+      → FaultCases text f
 
 fault_cases : (text : List ℕ) (f : ExprFault) → HasFault text f → FaultCases text f
 unfolding ScannedFault
@@ -185,7 +193,14 @@ scan_fault n at [] f e = absurd (cc)
 scan_fault (suc n) at (a ∷ bytes) f e = scan_fault n (suc at) bytes f e
 scan_fault zero at (a ∷ bytes) f e = go (λ n x. scan_fault n (suc at) bytes f x) (is_blank a) (lexeme (a ∷ bytes)) e
   where
-    go : ((n : ℕ) → scan n (suc at) bytes ≡ Faulty f → LexFault f) → (b : Bool) (x : Lexeme) → (elim b as (λ y. Scan) [ true ↦ scan 0 (suc at) bytes | false ↦ elim x as (λ y. Scan) [ Whole t n ↦ behind_token (placed at t) (scan (n - 1) (suc at) bytes) | Missing ↦ Faulty (fault.Token at) | TooLarge ↦ Faulty (fault.Literal at) ] ]) ≡ Faulty f → LexFault f
+    go : ((n : ℕ) → scan n (suc at) bytes ≡ Faulty f → LexFault f) → (b : Bool) (x : Lexeme) → (elim b as (λ y. Scan) [
+      | true ↦ scan 0 (suc at) bytes
+      | false ↦ elim x as (λ y. Scan) [
+        | Whole t n ↦ behind_token (placed at t) (scan (n - 1) (suc at) bytes)
+        | Missing ↦ Faulty (fault.Token at)
+        | TooLarge ↦ Faulty (fault.Literal at)
+      ]
+    ]) ≡ Faulty f → LexFault f
     go ih true x e = ih 0 e
     go ih false (Whole t n) e = ih (n - 1) (behind_faulty (placed at t) _ f e)
     go ih false Missing e = let h : fault.Token at ≡ f = cc in subst LexFault h tt
@@ -197,7 +212,8 @@ lex_fault text (fault.Token at) short e h = (short, e)
 lex_fault text (fault.Literal at) short e h = (short, e)
 lex_fault text _ short e h = absurd h
 
-stop_fault : (text : List ℕ) (tokens : List Placed) (f : ExprFault) → length text ≤ most_bytes → tokens_of text ≡ Tokens tokens → StopFault tokens f → HasFault text f
+stop_fault : (text : List ℕ) (tokens : List Placed) (f : ExprFault) → length text ≤ most_bytes → tokens_of text ≡ Tokens tokens
+    → StopFault tokens f → HasFault text f
 stop_fault text ts (fault.Unexpected at) s e h = record { tokens = ts; short = s; scanned = e; holds = inl h }
 stop_fault text ts (fault.Deep at) s e h = record { tokens = ts; short = s; scanned = e; holds = h }
 stop_fault text ts _ s e h = absurd h
@@ -210,7 +226,8 @@ unfolding Answered
 tokens_answered text ts s e = go (ending_cases (run start ts))
   where
     at_end : (n : State) → Reads ts n → ((finish n ≡ None) ⊎ ((t : Tree) × (finish n ≡ Some t))) → Answered text
-    at_end n h (inl x) = inr (fault.Unexpected (length text), record { tokens = ts; short = s; scanned = e; holds = inr (reached_cut ts n h x, refl) })
+    at_end n h (inl x) = inr
+        (fault.Unexpected (length text), record { tokens = ts; short = s; scanned = e; holds = inr (reached_cut ts n h x, refl) })
     at_end n h (inr (t, x)) = inl (t, record { tokens = ts; short = s; scanned = e; parsed = reached_tree ts n t h x })
 
     go : (((n : State) × (run start ts ≡ Reached n)) ⊎ ((f : ExprFault) × (run start ts ≡ Stopped f))) → Answered text

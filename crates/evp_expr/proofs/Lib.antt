@@ -15,5 +15,8 @@ pub mod Scans
 mod Decimals
 mod Laws
 mod Sounds
+mod Lexemes
+mod Scanned
 mod Prints
+mod ReadBack
 mod Examples

@@ -16,7 +16,8 @@ prefix_more p x xs h = rw h (omega arith)
 pub list_all-prefix : (p : ℕ → Bool) (xs : List ℕ) → list_all p (take (prefix_len p xs) xs) ≡ true
 list_all-prefix p [] = refl
 list_all-prefix p (x ∷ xs) =
-    let go : (b : Bool) → p x ≡ b → list_all p (take (prefix_len p (x ∷ xs)) (x ∷ xs)) ≡ true = λ b. elim b as (λ v. p x ≡ v → list_all p (take (prefix_len p (x ∷ xs)) (x ∷ xs)) ≡ true) [
+    let go : (b : Bool) → p x ≡ b → list_all p (take (prefix_len p (x ∷ xs)) (x ∷ xs)) ≡ true =
+    λ b. elim b as (λ v. p x ≡ v → list_all p (take (prefix_len p (x ∷ xs)) (x ∷ xs)) ≡ true) [
       | true ↦ λ h. rw (prefix_more p x xs h, h) (list_all-prefix p xs)
       | false ↦ λ h. rw h refl
     ] in
@@ -33,11 +34,13 @@ word_is_name first others begins short =
     subst (λ k. IsTrue (is_name (take k (first ∷ others)))) (sym one) (rw (begins, list_all-prefix continues_name others, test) refl)
 
 -- what isn't a name is too long
-pub word_missing : (bytes : List ℕ) → BeginsName bytes → ¬ IsTrue (is_name (take (prefix_len continues_name bytes) bytes)) → word (prefix_len continues_name bytes) bytes ≡ Missing
+pub word_missing : (bytes : List ℕ) → BeginsName bytes → ¬ IsTrue (is_name (take (prefix_len continues_name bytes) bytes))
+    → word (prefix_len continues_name bytes) bytes ≡ Missing
 word_missing [] begins none = absurd begins
 word_missing (first ∷ others) begins none =
     let n = prefix_len continues_name (first ∷ others) in
-    let go : (b : Bool) → nat_le n 64 ≡ b → word n (first ∷ others) ≡ Missing = λ b. elim b as (λ v. nat_le n 64 ≡ v → word n (first ∷ others) ≡ Missing) [
+    let go : (b : Bool) → nat_le n 64 ≡ b → word n (first ∷ others) ≡ Missing =
+    λ b. elim b as (λ v. nat_le n 64 ≡ v → word n (first ∷ others) ≡ Missing) [
       | true ↦ λ h. absurd (none (word_is_name first others begins (leb-true n 64 h)))
       | false ↦ λ h. rw (word, h) refl
     ] in

@@ -5,7 +5,9 @@ use Rattle.evp_expr.specs.declared.operator.Level.TheVariants.{Disjunction, Conj
 use Rattle.evp_expr.specs.declared.token.Placed.{Placed}
 use Rattle.evp_expr.specs.Levels.{rank}
 use Rattle.evp_expr.specs.Tree.{Tree, joined}
-use Rattle.evp_expr.specs.Grammar.{Part, Chain, Behind, Complete, Unary, Atom, Path, BehindPath, Front, operand, behind, IsExpression, most_levels, chain, no_more, more, complete, negated, denied, unsigned, literal, group, path, measured, compared, first, path_end, dotted, subscripted}
+use Rattle.evp_expr.specs.Grammar.{Part, Chain, Behind, Complete, Unary, Atom, Path, BehindPath, Front, operand, behind, IsExpression}
+use Rattle.evp_expr.specs.Grammar.{most_levels, chain, no_more, more, complete, negated, denied, unsigned, literal, group, path, measured}
+use Rattle.evp_expr.specs.Grammar.{compared, first, path_end, dotted, subscripted}
 use Rattle.evp_expr.specs.Sound.{is_path, IsFormed, stack_need, IsSound}
 use Rattle.evp_expr.specs.Laws.{TreesAreSound}
 
@@ -65,7 +67,8 @@ unfolding PartTakes PartGives
 front_formed (chain {l = l} {t = t} f b) h = front_formed b (operand_gives l t (front_formed f (operand_takes l)))
 front_formed no_more h = h
 front_formed (more {at = at} {l = l} {op = op} {t = t} {right = right} {tree = tree} e f b) h =
-    behind_gives l (joined at op t right) tree (front_formed b (behind_takes l (joined at op t right) (h, operand_gives l right (front_formed f (operand_takes l)))))
+    behind_gives l (joined at op t right) tree
+    (front_formed b (behind_takes l (joined at op t right) (h, operand_gives l right (front_formed f (operand_takes l)))))
 front_formed complete h = h
 front_formed (negated f) h = front_formed f tt
 front_formed (denied f) h = front_formed f tt

@@ -1,11 +1,16 @@
--- The levels at which operators between two operands bind, the loosest first, and the levels that are open.
+-- The levels at which operators between two operands bind, the loosest first, and the levels that
+-- are open.
 use Rattle.std.specs.Prelude.{ℕ, suc, List, [], ◌∷◌, Bool, true, false}
 use Rattle.evp_expr.specs.declared.operator.Operator.{Operator}
-use Rattle.evp_expr.specs.declared.operator.Operator.TheVariants.{Or, And, Equal, NotEqual, Less, LessEqual, Greater, GreaterEqual, Add, Subtract, Multiply, Divide, Remainder}
+use Rattle.evp_expr.specs.declared.operator.Operator.TheVariants.{Or, And, Equal, NotEqual, Less}
+use Rattle.evp_expr.specs.declared.operator.Operator.TheVariants.{LessEqual, Greater, GreaterEqual}
+use Rattle.evp_expr.specs.declared.operator.Operator.TheVariants.{Add, Subtract, Multiply, Divide}
+use Rattle.evp_expr.specs.declared.operator.Operator.TheVariants.{Remainder}
 use Rattle.evp_expr.specs.declared.state.Frame.{Frame}
 use Rattle.evp_expr.specs.declared.state.Frame.TheVariants as frame
 use Rattle.evp_expr.specs.declared.operator.Level.{Level}
-use Rattle.evp_expr.specs.declared.operator.Level.TheVariants.{Disjunction, Conjunction, Comparison, Sum, Product}
+use Rattle.evp_expr.specs.declared.operator.Level.TheVariants.{Disjunction, Conjunction, Comparison}
+use Rattle.evp_expr.specs.declared.operator.Level.TheVariants.{Sum, Product}
 
 abbrev pub level_of : Operator → Level
 level_of Or = Disjunction

@@ -1,5 +1,7 @@
 -- The tokens of a text, each the longest that stands at its place, with blanks between them.
-use Rattle.std.specs.Prelude.{ℕ, zero, suc, ◌+◌, ◌*◌, ◌-◌, ◌^◌, pos, List, [], ◌∷◌, length, take, drop, Bool, true, false, cond, ◌&&◌, ◌||◌, not, nat_eq, nat_le, nat_lt, Option, Some, None}
+use Rattle.std.specs.Prelude.{ℕ, zero, suc, ◌+◌, ◌*◌, ◌-◌, ◌^◌, pos, List, [], ◌∷◌, length, take}
+use Rattle.std.specs.Prelude.{drop, Bool, true, false, cond, ◌&&◌, ◌||◌, not, nat_eq, nat_le}
+use Rattle.std.specs.Prelude.{nat_lt, Option, Some, None}
 use Rattle.std.specs.List.{prefix_len}
 use Rattle.evp_base.specs.Name.{begins_name, continues_name, is_digit}
 use Rattle.evp_expr.specs.declared.fault.ExprFault.{ExprFault}
@@ -62,7 +64,8 @@ find_symbol (s ∷ others) a = cond (nat_eq a s.0) (Some s.1) (find_symbol other
 
 abbrev pub find_double : List (ℕ × ℕ × Token) → ℕ → ℕ → Option Token
 find_double [] a b = None
-find_double (s ∷ others) a b = cond (nat_eq a s.0 && nat_eq b s.1) (Some s.2) (find_double others a b)
+find_double (s ∷ others) a b =
+    cond (nat_eq a s.0 && nat_eq b s.1) (Some s.2) (find_double others a b)
 
 abbrev pub symbol_of : ℕ → Option Token
 symbol_of a = find_symbol symbols a
@@ -81,12 +84,19 @@ word n bytes = elim (nat_le n 64) [ true ↦ Whole (token.Name (take n bytes)) n
 
 abbrev pub numeral : ℕ → List ℕ → Lexeme
 numeral n bytes =
-    elim (nat_lt (decimal_from 0 (take n bytes)) (2 ^ 127)) [ true ↦ Whole (token.Number (pos (decimal_from 0 (take n bytes)))) n | false ↦ TooLarge ]
+    elim (nat_lt (decimal_from 0 (take n bytes)) (2 ^ 127)) [
+      | true ↦ Whole (token.Number (pos (decimal_from 0 (take n bytes)))) n
+      | false ↦ TooLarge
+    ]
 
 -- a text is closed by a `"` behind its plain bytes
 abbrev pub closed : List ℕ → List ℕ → Lexeme
 closed inner [] = Missing
-closed inner (byte ∷ bytes) = elim (nat_eq byte 34) [ true ↦ Whole (token.Text inner) (length inner + 2) | false ↦ Missing ]
+closed inner (byte ∷ bytes) =
+    elim (nat_eq byte 34) [
+      | true ↦ Whole (token.Text inner) (length inner + 2)
+      | false ↦ Missing
+    ]
 
 abbrev pub quoted : ℕ → List ℕ → Lexeme
 quoted n bytes = closed (take n bytes) (drop n bytes)
@@ -98,8 +108,8 @@ abbrev pub symbol : ℕ → List ℕ → Lexeme
 symbol a [] = short_symbol a
 symbol a (b ∷ bytes) = elim (double_of a b) [ Some t ↦ Whole t 2 | None ↦ short_symbol a ]
 
--- what a text begins with, which begins with no blank: a word and a numeral are as long as can be, and a
--- symbol of two bytes goes before one of one
+-- what a text begins with, which begins with no blank: a word and a numeral are as long as can be,
+-- and a symbol of two bytes goes before one of one
 abbrev pub lexeme : List ℕ → Lexeme
 lexeme [] = Missing
 lexeme (a ∷ bytes) =
@@ -107,7 +117,10 @@ lexeme (a ∷ bytes) =
       | true ↦ word (prefix_len continues_name (a ∷ bytes)) (a ∷ bytes)
       | false ↦ elim (is_digit a) [
         | true ↦ numeral (prefix_len is_digit (a ∷ bytes)) (a ∷ bytes)
-        | false ↦ elim (nat_eq a 34) [ true ↦ quoted (prefix_len is_plain bytes) bytes | false ↦ symbol a bytes ]
+        | false ↦ elim (nat_eq a 34) [
+          | true ↦ quoted (prefix_len is_plain bytes) bytes
+          | false ↦ symbol a bytes
+        ]
       ]
     ]
 
@@ -120,14 +133,19 @@ abbrev pub behind_token : Placed → Scan → Scan
 behind_token first (Tokens others) = Tokens (first ∷ others)
 behind_token first (Faulty f) = Faulty f
 
--- `scan n at bytes`: the bytes stand from `at` on, and the first n of them belong to the token before
+-- `scan n at bytes`: the bytes stand from `at` on, and the first n of them belong to the token
+-- before
 abbrev pub scan : ℕ → ℕ → List ℕ → Scan
 scan n at [] = Tokens []
 scan (suc n) at (a ∷ bytes) = scan n (suc at) bytes
 scan zero at (a ∷ bytes) =
     elim (is_blank a) [
       | true ↦ scan zero (suc at) bytes
-      | false ↦ elim (lexeme (a ∷ bytes)) [ Whole t n ↦ behind_token (placed at t) (scan (n - 1) (suc at) bytes) | Missing ↦ Faulty (fault.Token at) | TooLarge ↦ Faulty (fault.Literal at) ]
+      | false ↦ elim (lexeme (a ∷ bytes)) [
+        | Whole t n ↦ behind_token (placed at t) (scan (n - 1) (suc at) bytes)
+        | Missing ↦ Faulty (fault.Token at)
+        | TooLarge ↦ Faulty (fault.Literal at)
+      ]
     ]
 
 abbrev pub tokens_of : List ℕ → Scan

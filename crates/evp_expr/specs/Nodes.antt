@@ -1,5 +1,6 @@
 -- The nodes of a tree, each behind those of its parts, and the tree that nodes make.
-use Rattle.std.specs.Prelude.{◌≡◌, ℕ, ◌≤◌, pos, List, [], ◌∷◌, ◌++◌, length, take, drop, Option, Some, None, option_to_list, refl}
+use Rattle.std.specs.Prelude.{◌≡◌, ℕ, ◌≤◌, pos, List, [], ◌∷◌, ◌++◌, length, take, drop, Option}
+use Rattle.std.specs.Prelude.{Some, None, option_to_list, refl}
 use Rattle.std.specs.Coded.{Coded, code_by, coded_list}
 use Rattle.std.proofs.Common.{append_assoc, ◌∙◌, ap}
 use Rattle.evp_expr.specs.declared.node.Node.{Node}
@@ -8,8 +9,8 @@ use Rattle.evp_expr.specs.declared.operator.Operator.TheVariants.{Or, And}
 use Rattle.evp_expr.specs.contracts.node.Node as node_contract
 use Rattle.evp_expr.specs.Tree.{Tree, number, name, field, index, length_of, same, signed, joined}
 
--- what stands before the right part of a node, which has n nodes: that an index follows, or what a test
--- of two sides may leave out
+-- what stands before the right part of a node, which has n nodes: that an index follows, or what a
+-- test of two sides may leave out
 abbrev pub mark_of : Node → ℕ → Option Node
 mark_of (node.Index at) n = Some (node.Open at)
 mark_of (node.Joined at Or) n = Some (node.Shortcut Or n)
@@ -58,38 +59,49 @@ grown [] ts = ts
 grown (n ∷ ns) ts = grown ns (grow n ts)
 
 -- a mark changes no tree
-grown-mark : (n : Node) (k : ℕ) (ns : List Node) (ts : List Tree) → grown (option_to_list (mark_of n k) ++ ns) ts ≡ grown ns ts
+grown-mark : (n : Node) (k : ℕ) (ns : List Node) (ts : List Tree)
+    → grown (option_to_list (mark_of n k) ++ ns) ts ≡ grown ns ts
 grown-mark (node.Index at) k ns ts = refl
 grown-mark (node.Joined at Or) k ns ts = refl
 grown-mark (node.Joined at And) k ns ts = refl
 grown-mark _ k ns ts = refl
 
 -- nodes behind those of a joined node
-behind : (l m r ns : List Node) (n : Node) → (l ++ (m ++ (r ++ n ∷ []))) ++ ns ≡ l ++ (m ++ (r ++ n ∷ ns))
+behind : (l m r ns : List Node) (n : Node)
+    → (l ++ (m ++ (r ++ n ∷ []))) ++ ns ≡ l ++ (m ++ (r ++ n ∷ ns))
 behind l m r ns n =
-    append_assoc l (m ++ (r ++ n ∷ [])) ns ∙ ap (λ x. l ++ x) (append_assoc m (r ++ n ∷ []) ns ∙ ap (λ x. m ++ x) (append_assoc r (n ∷ []) ns))
+    append_assoc l (m ++ (r ++ n ∷ [])) ns
+    ∙ ap (λ x. l ++ x)
+    (append_assoc m (r ++ n ∷ []) ns ∙ ap (λ x. m ++ x) (append_assoc r (n ∷ []) ns))
 
 -- the nodes of a tree make it
-pub grown-nodes_of : (t : Tree) (ns : List Node) (ts : List Tree) → grown (nodes_of t ++ ns) ts ≡ grown ns (t ∷ ts)
+pub grown-nodes_of : (t : Tree) (ns : List Node) (ts : List Tree)
+    → grown (nodes_of t ++ ns) ts ≡ grown ns (t ∷ ts)
 grown-nodes_of (number n) ns ts = refl
 grown-nodes_of (name at word) ns ts = refl
 grown-nodes_of (field p at word) ns ts =
-    ap (λ x. grown x ts) (append_assoc (nodes_of p) (node.Field at word ∷ []) ns) ∙ grown-nodes_of p (node.Field at word ∷ ns) ts
+    ap (λ x. grown x ts) (append_assoc (nodes_of p) (node.Field at word ∷ []) ns)
+    ∙ grown-nodes_of p (node.Field at word ∷ ns) ts
 grown-nodes_of (index p at i) ns ts =
     ap (λ x. grown x ts) (behind (nodes_of p) (node.Open at ∷ []) (nodes_of i) ns (node.Index at))
-    ∙ (grown-nodes_of p (node.Open at ∷ (nodes_of i ++ node.Index at ∷ ns)) ts ∙ grown-nodes_of i (node.Index at ∷ ns) (p ∷ ts))
+    ∙ (grown-nodes_of p (node.Open at ∷ (nodes_of i ++ node.Index at ∷ ns)) ts
+    ∙ grown-nodes_of i (node.Index at ∷ ns) (p ∷ ts))
 grown-nodes_of (length_of p) ns ts =
-    ap (λ x. grown x ts) (append_assoc (nodes_of p) (node.Length ∷ []) ns) ∙ grown-nodes_of p (node.Length ∷ ns) ts
+    ap (λ x. grown x ts) (append_assoc (nodes_of p) (node.Length ∷ []) ns)
+    ∙ grown-nodes_of p (node.Length ∷ ns) ts
 grown-nodes_of (same p text) ns ts =
-    ap (λ x. grown x ts) (append_assoc (nodes_of p) (node.Same text ∷ []) ns) ∙ grown-nodes_of p (node.Same text ∷ ns) ts
+    ap (λ x. grown x ts) (append_assoc (nodes_of p) (node.Same text ∷ []) ns)
+    ∙ grown-nodes_of p (node.Same text ∷ ns) ts
 grown-nodes_of (signed at s x) ns ts =
-    ap (λ y. grown y ts) (append_assoc (nodes_of x) (node.Signed at s ∷ []) ns) ∙ grown-nodes_of x (node.Signed at s ∷ ns) ts
+    ap (λ y. grown y ts) (append_assoc (nodes_of x) (node.Signed at s ∷ []) ns)
+    ∙ grown-nodes_of x (node.Signed at s ∷ ns) ts
 grown-nodes_of (joined at op l r) ns ts =
     let n = node.Joined at op in
     let m = option_to_list (mark_of n (length (nodes_of r))) in
     ap (λ x. grown x ts) (behind (nodes_of l) m (nodes_of r) ns n)
     ∙ (grown-nodes_of l (m ++ (nodes_of r ++ n ∷ ns)) ts
-    ∙ (grown-mark n (length (nodes_of r)) (nodes_of r ++ n ∷ ns) (l ∷ ts) ∙ grown-nodes_of r (n ∷ ns) (l ∷ ts)))
+    ∙ (grown-mark n (length (nodes_of r)) (nodes_of r ++ n ∷ ns) (l ∷ ts)
+    ∙ grown-nodes_of r (n ∷ ns) (l ∷ ts)))
 
 -- the last of the trees, or 0 where there is none
 abbrev pub last_tree : List Tree → Tree
@@ -104,7 +116,9 @@ pub tree_of-nodes_of : (t : Tree) → tree_of (nodes_of t ++ []) ≡ t
 tree_of-nodes_of t = ap last_tree (grown-nodes_of t [] [])
 
 abbrev pub tree_code : Coded Tree
-tree_code = code_by (List Node) (coded_list node_contract.the_row.coded) (λ t. nodes_of t ++ []) tree_of tree_of-nodes_of
+tree_code =
+    code_by (List Node) (coded_list node_contract.the_row.coded)
+    (λ t. nodes_of t ++ []) tree_of tree_of-nodes_of
 
 -- the nodes of the trees ready, the last tree first
 abbrev pub nodes_of_all : List Tree → List Node
@@ -143,8 +157,9 @@ abbrev pub HasStart : ℕ → List ℕ → Type 0
 HasStart n [] = ⊥
 HasStart n (start ∷ starts) = start ≤ n
 
--- The nodes before become those after by a node that joins the last tree with what stands before it. The
--- last tree's start goes.
+-- The nodes before become those after by a node that joins the last tree with what stands before
+-- it. The last tree's start goes.
 abbrev pub PutsJoining : Node → List Node → List Node → List ℕ → List ℕ → Type 0
 PutsJoining n before after [] others = ⊥
-PutsJoining n before after (start ∷ starts) others = (after ≡ joined_nodes n (take start before) (drop start before)) × (others ≡ starts)
+PutsJoining n before after (start ∷ starts) others =
+    (after ≡ joined_nodes n (take start before) (drop start before)) × (others ≡ starts)

@@ -17,13 +17,14 @@ OpeningFault at frames (Err fault.Memory) = Unit {0}
 OpeningFault at frames (Err (fault.Deep a)) = (a ≡ at) × (most_levels < levels frames)
 OpeningFault at frames (Err _) = ⊥
 
--- The answer for a token at this place, whose next state is this: the state, or the fault that the place
--- has. With no memory nothing is said.
+-- The answer for a token at this place, whose next state is this: the state, or the fault that the
+-- place has. With no memory nothing is said.
 abbrev pub Answers : ℕ → Option State → Result Mode ExprFault → List Frame → List Tree → Type 0
 Answers at next (Ok m) fs ts = next ≡ Some (state m fs ts)
 Answers at next (Err fault.Memory) fs ts = Unit {0}
 Answers at next (Err (fault.Unexpected a)) fs ts = (next ≡ None) × (a ≡ at)
-Answers at next (Err (fault.Deep a)) fs ts = (s : State) × (next ≡ Some s) × (most_levels < levels s.frames) × (a ≡ at)
+Answers at next (Err (fault.Deep a)) fs ts =
+    (s : State) × (next ≡ Some s) × (most_levels < levels s.frames) × (a ≡ at)
 Answers at next (Err _) fs ts = ⊥
 
 -- the only fault is want of memory

@@ -22,8 +22,8 @@ pub record HasTree (text : List ℕ) (tree : Tree) : Type 0 where
   pub scanned : tokens_of text ≡ Tokens tokens
   pub parsed : IsExpression most_levels tokens tree
 
--- The token at this place is the first with which the tokens so far begin no expression of the levels that
--- may be open.
+-- The token at this place is the first with which the tokens so far begin no expression of the
+-- levels that may be open.
 pub record StopsAt (tokens : List Placed) (at : ℕ) : Type 0 where
   pub before : List Placed
   pub token : Placed
@@ -58,9 +58,12 @@ pub record TokensOf (text : List ℕ) (P : List Placed → Type 0) : Type 0 wher
 -- the text has this fault, the first in the order: its length, its tokens, its grammar
 abbrev pub HasFault : List ℕ → ExprFault → Type 0
 HasFault text fault.Long = most_bytes < length text
-HasFault text (fault.Token at) = (length text ≤ most_bytes) × (tokens_of text ≡ Faulty (fault.Token at))
-HasFault text (fault.Literal at) = (length text ≤ most_bytes) × (tokens_of text ≡ Faulty (fault.Literal at))
-HasFault text (fault.Unexpected at) = TokensOf text (λ tokens. IsUnexpected tokens at ⊎ (IsCut tokens × (at ≡ length text)))
+HasFault text (fault.Token at) =
+    (length text ≤ most_bytes) × (tokens_of text ≡ Faulty (fault.Token at))
+HasFault text (fault.Literal at) =
+    (length text ≤ most_bytes) × (tokens_of text ≡ Faulty (fault.Literal at))
+HasFault text (fault.Unexpected at) =
+    TokensOf text (λ tokens. IsUnexpected tokens at ⊎ (IsCut tokens × (at ≡ length text)))
 HasFault text (fault.Deep at) = TokensOf text (λ tokens. IsDeep tokens at)
 HasFault text fault.Memory = ⊥
 
@@ -68,6 +71,7 @@ HasFault text fault.Memory = ⊥
 abbrev pub ReadAnswers : List Placed → ℕ → Result Tree ExprFault → Type 0
 ReadAnswers tokens end (Ok tree) = IsExpression most_levels tokens tree
 ReadAnswers tokens end (Err fault.Memory) = Unit {0}
-ReadAnswers tokens end (Err (fault.Unexpected at)) = IsUnexpected tokens at ⊎ (IsCut tokens × (at ≡ end))
+ReadAnswers tokens end (Err (fault.Unexpected at)) =
+    IsUnexpected tokens at ⊎ (IsCut tokens × (at ≡ end))
 ReadAnswers tokens end (Err (fault.Deep at)) = IsDeep tokens at
 ReadAnswers tokens end (Err _) = ⊥

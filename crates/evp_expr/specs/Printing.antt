@@ -1,16 +1,61 @@
--- A tree printed with all its parentheses.
-use Rattle.std.specs.Prelude.{◌≡◌, ℕ, suc, max, List, [], ◌∷◌, ◌++◌}
-use Rattle.evp_expr.specs.declared.operator.Operator.TheVariants.{Subtract}
+-- A tree as a text, with all its parentheses and a blank behind each token.
+use Rattle.std.specs.Prelude.{◌≡◌, ℕ, suc, pos, ◌<◌, ◌^◌, max, List, ◌++◌, codes, IsTrue}
+use Rattle.std.specs.Fmt.{signed_decimal}
+use Rattle.std.specs.List.{list_all}
+use Rattle.evp_base.specs.Name.{is_name}
+use Rattle.evp_expr.specs.declared.operator.Operator.{Operator}
+use Rattle.evp_expr.specs.declared.operator.Operator.TheVariants as operator
 use Rattle.evp_expr.specs.declared.operator.Sign.{Sign}
 use Rattle.evp_expr.specs.declared.operator.Sign.TheVariants as sign
-use Rattle.evp_expr.specs.declared.token.Placed.{Placed}
-use Rattle.evp_expr.specs.declared.token.Token.{Token}
-use Rattle.evp_expr.specs.declared.token.Token.TheVariants as token
+use Rattle.evp_expr.specs.Lexing.{is_plain}
 use Rattle.evp_expr.specs.Tree.{Tree, number, name, field, index, length_of, same, signed, joined}
-use Rattle.evp_expr.specs.Lexing.{placed}
-use Rattle.evp_expr.specs.Grammar.{len_word, same_word}
 
--- the levels that are open at once in the printed tree
+abbrev pub sign_text : Sign → List ℕ
+sign_text sign.Negate = codes "-"
+sign_text sign.Not = codes "!"
+
+abbrev pub operator_text : Operator → List ℕ
+operator_text operator.Or = codes "||"
+operator_text operator.And = codes "&&"
+operator_text operator.Equal = codes "=="
+operator_text operator.NotEqual = codes "!="
+operator_text operator.Less = codes "<"
+operator_text operator.LessEqual = codes "<="
+operator_text operator.Greater = codes ">"
+operator_text operator.GreaterEqual = codes ">="
+operator_text operator.Add = codes "+"
+operator_text operator.Subtract = codes "-"
+operator_text operator.Multiply = codes "*"
+operator_text operator.Divide = codes "/"
+operator_text operator.Remainder = codes "%"
+
+-- a text in its quotes
+abbrev pub quotes : List ℕ → List ℕ
+quotes text = codes "\"" ++ (text ++ codes "\"")
+
+-- a token's text, and a blank
+abbrev pub spaced : List ℕ → List ℕ
+spaced token = token ++ codes " "
+
+-- the tree's text
+abbrev pub printed : Tree → List ℕ
+printed (number n) = spaced (signed_decimal n)
+printed (name at word) = spaced word
+printed (field p at word) = printed p ++ (spaced (codes ".") ++ spaced word)
+printed (index p at i) =
+    printed p ++ (spaced (codes "[") ++ (printed i ++ spaced (codes "]")))
+printed (length_of p) =
+    spaced (codes "len") ++ (spaced (codes "(") ++ (printed p ++ spaced (codes ")")))
+printed (same p text) =
+    spaced (codes "same") ++ (spaced (codes "(") ++
+    (printed p ++ (spaced (codes ",") ++ (spaced (quotes text) ++ spaced (codes ")")))))
+printed (signed at s x) =
+    spaced (codes "(") ++ (spaced (sign_text s) ++ (printed x ++ spaced (codes ")")))
+printed (joined at op l r) =
+    spaced (codes "(") ++
+    (printed l ++ (spaced (operator_text op) ++ (printed r ++ spaced (codes ")"))))
+
+-- the levels that are open at once in the tree's text
 abbrev pub height : Tree → ℕ
 height (number n) = 0
 height (name at word) = 0
@@ -21,18 +66,25 @@ height (same p text) = suc (height p)
 height (signed at s x) = suc (suc (height x))
 height (joined at op l r) = suc (max (height l) (height r))
 
-abbrev pub sign_token : Sign → Token
-sign_token sign.Negate = token.Operator Subtract
-sign_token sign.Not = token.Not
+-- its numbers are from 0 to 2^127 - 1, its names are names, and its texts are such as quotes can
+-- hold
+abbrev pub IsLegal : Tree → Type 0
+IsLegal (number n) = (k : ℕ) × (n ≡ pos k) × (k < 2 ^ 127)
+IsLegal (name at word) = IsTrue (is_name word)
+IsLegal (field p at word) = IsLegal p × IsTrue (is_name word)
+IsLegal (index p at i) = IsLegal p × IsLegal i
+IsLegal (length_of p) = IsLegal p
+IsLegal (same p text) = IsLegal p × IsTrue (list_all is_plain text)
+IsLegal (signed at s x) = IsLegal x
+IsLegal (joined at op l r) = IsLegal l × IsLegal r
 
--- The tokens are the tree, with parentheses round each operator and its operands. Names, `[` and operators
--- have the tree's places, and the other tokens have any.
-abbrev pub IsPrinted : Tree → List Placed → Type 0
-IsPrinted (number n) ts = (at : ℕ) × (ts ≡ placed at (token.Number n) ∷ [])
-IsPrinted (name at word) ts = ts ≡ placed at (token.Name word) ∷ []
-IsPrinted (field p at word) ts = (us : List Placed) × (dot : ℕ) × IsPrinted p us × (ts ≡ us ++ placed dot token.Dot ∷ placed at (token.Name word) ∷ [])
-IsPrinted (index p at i) ts = (us : List Placed) × (vs : List Placed) × (end : ℕ) × IsPrinted p us × IsPrinted i vs × (ts ≡ us ++ placed at token.OpenBracket ∷ (vs ++ placed end token.CloseBracket ∷ []))
-IsPrinted (length_of p) ts = (us : List Placed) × (at : ℕ) × (paren : ℕ) × (end : ℕ) × IsPrinted p us × (ts ≡ placed at (token.Name len_word) ∷ placed paren token.OpenParen ∷ (us ++ placed end token.CloseParen ∷ []))
-IsPrinted (same p text) ts = (us : List Placed) × (at : ℕ) × (paren : ℕ) × (comma : ℕ) × (quote : ℕ) × (end : ℕ) × IsPrinted p us × (ts ≡ placed at (token.Name same_word) ∷ placed paren token.OpenParen ∷ (us ++ placed comma token.Comma ∷ placed quote (token.Text text) ∷ placed end token.CloseParen ∷ []))
-IsPrinted (signed at s x) ts = (us : List Placed) × (paren : ℕ) × (end : ℕ) × IsPrinted x us × (ts ≡ placed paren token.OpenParen ∷ placed at (sign_token s) ∷ (us ++ placed end token.CloseParen ∷ []))
-IsPrinted (joined at op l r) ts = (us : List Placed) × (vs : List Placed) × (paren : ℕ) × (end : ℕ) × IsPrinted l us × IsPrinted r vs × (ts ≡ placed paren token.OpenParen ∷ (us ++ placed at (token.Operator op) ∷ (vs ++ placed end token.CloseParen ∷ [])))
+-- the tree without its places, each of which is 0
+abbrev pub bare : Tree → Tree
+bare (number n) = number n
+bare (name at word) = name 0 word
+bare (field p at word) = field (bare p) 0 word
+bare (index p at i) = index (bare p) 0 (bare i)
+bare (length_of p) = length_of (bare p)
+bare (same p text) = same (bare p) text
+bare (signed at s x) = signed 0 s (bare x)
+bare (joined at op l r) = joined 0 op (bare l) (bare r)

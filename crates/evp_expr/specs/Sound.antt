@@ -23,8 +23,8 @@ IsFormed (same p text) = (is_path p ≡ true) × IsFormed p
 IsFormed (signed at s x) = IsFormed x
 IsFormed (joined at op l r) = IsFormed l × IsFormed r
 
--- The values that stand ready at once at most, where the nodes of a tree are taken in order and each puts one
--- value in the place of those of its parts.
+-- The values that stand ready at once at most, where the nodes of a tree are taken in order and
+-- each puts one value in the place of those of its parts.
 abbrev pub stack_need : Tree → ℕ
 stack_need (number n) = 1
 stack_need (name at word) = 1

@@ -9,14 +9,16 @@ use Rattle.evp_expr.specs.declared.state.Pending.{Pending}
 use Rattle.evp_expr.specs.Nodes.{HasTwo}
 use Rattle.evp_expr.specs.Tree.{Tree}
 
--- The rungs stand in order: on top of the frames rungs of a rank below n alone, each looser than the one
--- before, up to a bracket; signs stand on a whole ladder alone. And each pending operator has its left tree.
+-- The rungs stand in order: on top of the frames rungs of a rank below n alone, each looser than
+-- the one before, up to a bracket; signs stand on a whole ladder alone. And each pending operator
+-- has its left tree.
 abbrev pub Ordered : ℕ → List Frame → List Tree → Type 0
 Ordered n [] [] = Unit {0}
 Ordered n [] (x ∷ xs) = ⊥
 Ordered n (frame.Rung level None ∷ fs) trees = (rank level < n) × Ordered (rank level) fs trees
 Ordered n (frame.Rung level (Some p) ∷ fs) [] = ⊥
-Ordered n (frame.Rung level (Some p) ∷ fs) (left ∷ trees) = (rank level < n) × Ordered (rank level) fs trees
+Ordered n (frame.Rung level (Some p) ∷ fs) (left ∷ trees) =
+    (rank level < n) × Ordered (rank level) fs trees
 Ordered n (frame.Sign at s ∷ fs) trees = (n ≡ 5) × Ordered 5 fs trees
 Ordered n (frame.Group ∷ fs) trees = Ordered 5 fs trees
 Ordered n (frame.Index at ∷ fs) [] = ⊥

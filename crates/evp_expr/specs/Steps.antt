@@ -5,7 +5,8 @@ use Rattle.evp_expr.specs.declared.operator.Operator.{Operator}
 use Rattle.evp_expr.specs.declared.operator.Operator.TheVariants.{Subtract}
 use Rattle.evp_expr.specs.declared.operator.Sign.TheVariants as sign
 use Rattle.evp_expr.specs.declared.operator.Level.{Level}
-use Rattle.evp_expr.specs.declared.operator.Level.TheVariants.{Disjunction, Conjunction, Comparison, Sum, Product}
+use Rattle.evp_expr.specs.declared.operator.Level.TheVariants.{Disjunction, Conjunction, Comparison}
+use Rattle.evp_expr.specs.declared.operator.Level.TheVariants.{Sum, Product}
 use Rattle.evp_expr.specs.declared.token.Token.{Token}
 use Rattle.evp_expr.specs.declared.token.Token.TheVariants as token
 use Rattle.evp_expr.specs.declared.node.Node.TheVariants as node
@@ -33,8 +34,11 @@ abbrev pub above : Level → List Frame → List Frame
 above Product fs = fs
 above Sum fs = frame.Rung Product None ∷ fs
 above Comparison fs = frame.Rung Product None ∷ frame.Rung Sum None ∷ fs
-above Conjunction fs = frame.Rung Product None ∷ frame.Rung Sum None ∷ frame.Rung Comparison None ∷ fs
-above Disjunction fs = frame.Rung Product None ∷ frame.Rung Sum None ∷ frame.Rung Comparison None ∷ frame.Rung Conjunction None ∷ fs
+above Conjunction fs =
+    frame.Rung Product None ∷ frame.Rung Sum None ∷ frame.Rung Comparison None ∷ fs
+above Disjunction fs =
+    frame.Rung Product None ∷ frame.Rung Sum None ∷ frame.Rung Comparison None
+    ∷ frame.Rung Conjunction None ∷ fs
 
 -- the rungs of a whole expression
 abbrev pub rungs : List Frame → List Frame
@@ -51,7 +55,11 @@ takes_more Product p = true
 
 -- the operator by which a token goes on with a phrase of a level
 abbrev pub joins : Level → Option Pending → Token → Option Operator
-joins l p (token.Operator op) = elim (nat_eq (rank (level_of op)) (rank l) && takes_more l p) [ true ↦ Some op | false ↦ None ]
+joins l p (token.Operator op) =
+    elim (nat_eq (rank (level_of op)) (rank l) && takes_more l p) [
+      | true ↦ Some op
+      | false ↦ None
+    ]
 joins l p (token.Name word) = None
 joins l p (token.Number n) = None
 joins l p (token.Text text) = None
@@ -84,23 +92,47 @@ abbrev pub settle : Option Pending → List Tree → List Tree
 settle None ts = ts
 settle (Some p) ts = grow (node.Joined p.at p.operator) ts
 
--- A token behind an operand that nothing extends. What the operand ends is closed, up to what the token
--- belongs to.
+-- what is open behind an operator that goes on with a phrase of a level
+abbrev pub goes_on : ℕ → Level → Operator → List Frame → List Frame
+goes_on at l op fs = above l (frame.Rung l (Some (record { at = at; operator = op })) ∷ fs)
+
+-- A token behind an operand that nothing extends. What the operand ends is closed, up to what the
+-- token belongs to.
 abbrev pub after : ℕ → Token → List Frame → List Tree → Option State
 after at t [] ts = None
 after at t (frame.Rung l p ∷ fs) ts =
-    elim (joins l p t) [ Some op ↦ Some (state mode.Operand (above l (frame.Rung l (Some (record { at = at; operator = op })) ∷ fs)) (settle p ts)) | None ↦ after at t fs (settle p ts) ]
+    elim (joins l p t) [
+      | Some op ↦ Some (state mode.Operand (goes_on at l op fs) (settle p ts))
+      | None ↦ after at t fs (settle p ts)
+    ]
 after at t (frame.Sign place s ∷ fs) ts = after at t fs (grow (node.Signed place s) ts)
-after at t (frame.Group ∷ fs) ts = elim (is_close_paren t) [ true ↦ Some (state mode.AfterOperand fs ts) | false ↦ None ]
-after at t (frame.Index place ∷ fs) ts = elim (is_close_bracket t) [ true ↦ Some (state mode.AfterPath fs (grow (node.Index place) ts)) | false ↦ None ]
-after at t (frame.Length ∷ fs) ts = elim (is_close_paren t) [ true ↦ Some (state mode.AfterOperand fs (grow node.Length ts)) | false ↦ None ]
-after at t (frame.Same ∷ fs) ts = elim (is_comma t) [ true ↦ Some (state mode.TextOfSame (frame.Same ∷ fs) ts) | false ↦ None ]
+after at t (frame.Group ∷ fs) ts =
+    elim (is_close_paren t) [
+      | true ↦ Some (state mode.AfterOperand fs ts)
+      | false ↦ None
+    ]
+after at t (frame.Index place ∷ fs) ts =
+    elim (is_close_bracket t) [
+      | true ↦ Some (state mode.AfterPath fs (grow (node.Index place) ts))
+      | false ↦ None
+    ]
+after at t (frame.Length ∷ fs) ts =
+    elim (is_close_paren t) [
+      | true ↦ Some (state mode.AfterOperand fs (grow node.Length ts))
+      | false ↦ None
+    ]
+after at t (frame.Same ∷ fs) ts =
+    elim (is_comma t) [
+      | true ↦ Some (state mode.TextOfSame (frame.Same ∷ fs) ts)
+      | false ↦ None
+    ]
 
 -- a token where an operand should begin
 abbrev pub begins : ℕ → Token → List Frame → List Tree → Option State
 begins at (token.Name word) fs ts = Some (state (mode.AfterName at word) fs ts)
 begins at (token.Number n) fs ts = Some (state mode.AfterOperand fs (number n ∷ ts))
-begins at (token.Operator Subtract) fs ts = Some (state mode.Operand (frame.Sign at sign.Negate ∷ fs) ts)
+begins at (token.Operator Subtract) fs ts =
+    Some (state mode.Operand (frame.Sign at sign.Negate ∷ fs) ts)
 begins at (token.Operator _) fs ts = None
 begins at token.Not fs ts = Some (state mode.Operand (frame.Sign at sign.Not ∷ fs) ts)
 begins at token.OpenParen fs ts = Some (state mode.Operand (rungs (frame.Group ∷ fs)) ts)
@@ -114,19 +146,30 @@ extends at t fs ts = after at t fs ts
 
 -- the function of a name: `len` and `same` have one
 abbrev pub function_of : List ℕ → Option Frame
-function_of word = elim (bytes_eq word len_word) [ true ↦ Some frame.Length | false ↦ elim (bytes_eq word same_word) [ true ↦ Some frame.Same | false ↦ None ] ]
+function_of word =
+    elim (bytes_eq word len_word) [
+      | true ↦ Some frame.Length
+      | false ↦ elim (bytes_eq word same_word) [ true ↦ Some frame.Same | false ↦ None ]
+    ]
 
 -- a token behind a name that begins an operand
 abbrev pub follows_name : ℕ → List ℕ → ℕ → Token → List Frame → List Tree → Option State
 follows_name place word at t fs ts =
-    elim (is_open_paren t) [ true ↦ elim (function_of word) [ Some f ↦ Some (state mode.PathStart (f ∷ fs) ts) | None ↦ None ] | false ↦ extends at t fs (name place word ∷ ts) ]
+    elim (is_open_paren t) [
+      | true ↦ elim (function_of word) [
+        | Some f ↦ Some (state mode.PathStart (f ∷ fs) ts)
+        | None ↦ None
+      ]
+      | false ↦ extends at t fs (name place word ∷ ts)
+    ]
 
 abbrev pub begins_path : ℕ → Token → List Frame → List Tree → Option State
 begins_path at (token.Name word) fs ts = Some (state mode.AfterPath fs (name at word ∷ ts))
 begins_path at _ fs ts = None
 
 abbrev pub names_field : ℕ → Token → List Frame → List Tree → Option State
-names_field at (token.Name word) fs ts = Some (state mode.AfterPath fs (grow (node.Field at word) ts))
+names_field at (token.Name word) fs ts =
+    Some (state mode.AfterPath fs (grow (node.Field at word) ts))
 names_field at _ fs ts = None
 
 abbrev pub gives_text : Token → List Frame → List Tree → Option State
@@ -135,7 +178,8 @@ gives_text _ fs ts = None
 
 -- the `)` of `same`
 abbrev pub ends_same : List ℕ → Token → List Frame → List Tree → Option State
-ends_same text token.CloseParen (frame.Same ∷ fs) ts = Some (state mode.AfterOperand fs (grow (node.Same text) ts))
+ends_same text token.CloseParen (frame.Same ∷ fs) ts =
+    Some (state mode.AfterOperand fs (grow (node.Same text) ts))
 ends_same text _ fs ts = None
 
 -- where a token leads; nowhere where it is unexpected

@@ -3,7 +3,8 @@ use Rattle.std.specs.Prelude.{ℕ, ℤ, List}
 use Rattle.evp_expr.specs.declared.operator.Operator.{Operator}
 use Rattle.evp_expr.specs.declared.operator.Sign.{Sign}
 
--- A path is a `name`, a `field` or an `index`. Each number ℕ is a place: of a name, of the `[`, of an operator.
+-- A path is a `name`, a `field` or an `index`. Each number ℕ is a place: of a name, of the `[`, of
+-- an operator.
 pub data Tree : Type 0 where
   number : ℤ → Tree
   name : ℕ → List ℕ → Tree

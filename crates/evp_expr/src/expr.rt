@@ -7,7 +7,8 @@ use evp_base::Memory;
 use std::alloc::Global;
 use std::marker::Model;
 
-/// An expression. Contracts see its tree, with the places of its names, of each `[` and of its operators.
+/// An expression. Contracts see its tree, with the places of its names, of each `[` and of its
+/// operators.
 #[derive(Debug, Drop)]
 pub struct Expr {
     nodes: Vec<Node>,
@@ -25,7 +26,8 @@ impl Model for Expr {
 
     ghost view = { λ e. tree_of e.nodes.items };
 
-    ghost invariant = { λ e. (e.nodes.items ≡ nodes_of (tree_of e.nodes.items)) × IsSound (tree_of e.nodes.items) };
+    ghost invariant = { λ e. (e.nodes.items ≡ nodes_of (tree_of e.nodes.items))
+        × IsSound (tree_of e.nodes.items) };
 }
 
 impl Expr {

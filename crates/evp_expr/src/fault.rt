@@ -7,12 +7,12 @@ use std::alloc::{AllocError, AllocFailed};
 use std::error::Error;
 use std::fmt;
 
-/// Why a text is no expression. Places are offsets in bytes, from 0. Written as `token at 2`, with the
-/// place, or as `long` or `memory`.
+/// Why a text is no expression. Places are offsets in bytes, from 0. Written as `token at 2`, with
+/// the place, or as `long` or `memory`.
 #[derive(Clone, Copy, Debug, PartialEq, Eq)]
 pub enum ExprFault {
-    /// Here stands no token: a character that none begins with, a word of more than 64 bytes, or the
-    /// opening quote of a text that isn't closed.
+    /// Here stands no token: a character that none begins with, a word of more than 64 bytes, or
+    /// the opening quote of a text that isn't closed.
     Token(u32),
     /// The token here, or the end of the text, can't follow what stands before it.
     Unexpected(u32),

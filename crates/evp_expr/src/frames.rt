@@ -98,7 +98,8 @@ impl Frames {
 
     /// Closes the innermost frame.
     pub fn pop(&mut self) -> Option<Frame>
-        ensures popped { MatchOption result ((self.old ≡ []) × (self.new ≡ [])) (λ frame. self.old ≡ frame ∷ self.new) }
+        ensures popped { MatchOption result ((self.old ≡ []) × (self.new ≡ []))
+            (λ frame. self.old ≡ frame ∷ self.new) }
         ensures within { levels self.new ≤ 64 }
     {
         let frame = self.frames.pop()?;

@@ -1,8 +1,11 @@
 //! The tokens of a text.
-ghost use Rattle.std.specs.Prelude.{◌≡◌, ◌+◌, ◌-◌, ◌*◌, ◌^◌, ◌<◌, ◌≤◌, List, length, pos, SomeIff, IfOk};
+ghost use Rattle.std.specs.Prelude.{◌≡◌, ◌+◌, ◌-◌, ◌*◌, ◌^◌, ◌<◌, ◌≤◌, List, length, pos, SomeIff};
+ghost use Rattle.std.specs.Prelude.{IfOk};
 ghost use Rattle.std.specs.List.{prefix_len};
 ghost use Rattle.evp_base.specs.Name.{begins_name, continues_name, is_digit};
-ghost use Rattle.evp_expr.specs.Lexing.{is_blank, is_plain, symbol_of, double_of, decimal_from, word, numeral, quoted, symbol, short_symbol, lexeme, tokens_of};
+ghost use Rattle.evp_expr.specs.Lexing.{is_blank, is_plain, symbol_of, double_of, decimal_from};
+ghost use Rattle.evp_expr.specs.Lexing.{word, numeral, quoted, symbol, short_symbol, lexeme};
+ghost use Rattle.evp_expr.specs.Lexing.{tokens_of};
 ghost use Rattle.evp_expr.specs.Scanning.{BeginsName, LexAnswers, ScanAnswers};
 
 use crate::fault::ExprFault;
@@ -114,7 +117,8 @@ fn append_digit(value: u128, digit: u8) -> Option<u128>
 
 /// The number of these digits, where it is at most the largest.
 fn decimal(digits: &[u8]) -> Option<i128>
-    ensures { SomeIff result (decimal_from 0 digits.now < 2 ^ 127) (pos (decimal_from 0 digits.now)) }
+    ensures { SomeIff result (decimal_from 0 digits.now < 2 ^ 127)
+        (pos (decimal_from 0 digits.now)) }
 {
     let mut value = 0u128;
     for digit in digits {

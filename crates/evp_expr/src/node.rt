@@ -7,9 +7,9 @@ use crate::quoted_text::QuotedText;
 use evp_base::{Memory, Name};
 use std::alloc::Global;
 
-/// A node of an expression's tree, by its kind. In the list of a tree's nodes each node stands behind
-/// those of its parts, and the parts stand from left to right. `Open` and `Shortcut` stand before the
-/// right part of the node that they tell of.
+/// A node of an expression's tree, by its kind. In the list of a tree's nodes each node stands
+/// behind those of its parts, and the parts stand from left to right. `Open` and `Shortcut` stand
+/// before the right part of the node that they tell of.
 #[derive(Debug, Drop)]
 pub enum Node {
     /// A number from 0 to 2^127 - 1.

@@ -69,17 +69,19 @@ impl Parser {
     ghost use Rattle.std.specs.Prelude.{◌≡◌, ◌≤◌, IfOk, IfSome, OnOk, true, Some, None, [], ◌∷◌};
     ghost use Rattle.evp_expr.specs.declared.state.Mode.TheVariants as mode;
     ghost use Rattle.evp_expr.specs.declared.token.Token.TheVariants as token;
-    ghost use Rattle.evp_expr.specs.declared.state.Frame.TheVariants.{Rung};
     ghost use Rattle.evp_expr.specs.Levels.{levels, opens_level, is_bracket};
     ghost use Rattle.evp_expr.specs.Nodes.{last_tree};
-    ghost use Rattle.evp_expr.specs.Steps.{State, state, start, settle, above, rungs, begins, begins_path, names_field, follows_name, extends, after, gives_text, ends_same, step_at, finish_at, close_all};
+    ghost use Rattle.evp_expr.specs.Steps.{State, state, start, settle, goes_on, rungs, begins};
+    ghost use Rattle.evp_expr.specs.Steps.{begins_path, names_field, follows_name, extends, after};
+    ghost use Rattle.evp_expr.specs.Steps.{gives_text, ends_same, step_at, finish_at, close_all};
     ghost use Rattle.evp_expr.specs.Sound.{IsSound};
     ghost use Rattle.evp_expr.specs.Standing.{StandsAt, HasOperand, CanSettle};
     ghost use Rattle.evp_expr.specs.Opening.{Answers, ClosingAnswers, FinalAnswers, MemoryAlone};
 
     /// At the start of an expression.
     pub fn new(alloc: Global) -> Result<Parser, ExprFault>
-        ensures begun { IfOk result (λ parser. state mode.Operand parser.frames parser.trees ≡ start) }
+        ensures begun { IfOk result (λ parser.
+            state mode.Operand parser.frames parser.trees ≡ start) }
         ensures fault { MemoryAlone result }
     {
         let mut frames = Frames::new(alloc);
@@ -94,7 +96,9 @@ impl Parser {
     /// Opens a bracket and the phrases of a whole expression.
     fn open_whole(&mut self, at: u32, bracket: Frame) -> Result<Mode, ExprFault>
         requires { opens_level bracket ≡ true }
-        ensures { Answers at (Some (state mode.Operand (rungs (bracket ∷ self.old.frames)) self.old.trees)) result self.new.frames self.new.trees }
+        ensures { Answers at
+            (Some (state mode.Operand (rungs (bracket ∷ self.old.frames)) self.old.trees))
+            result self.new.frames self.new.trees }
     {
         self.frames.open(at, bracket)?;
         self.frames.push_rung(Level::Disjunction, None)?;
@@ -104,7 +108,8 @@ impl Parser {
 
     /// A token where an operand should begin.
     fn begin(&mut self, at: u32, token: Token) -> Result<Mode, ExprFault>
-        ensures { Answers at (begins at token self.old.frames self.old.trees) result self.new.frames self.new.trees }
+        ensures { Answers at (begins at token self.old.frames self.old.trees)
+            result self.new.frames self.new.trees }
     {
         match token {
             Token::Name(name) => Ok(Mode::AfterName(at, name)),
@@ -124,7 +129,8 @@ impl Parser {
 
     /// An operator where an operand should begin.
     fn begin_negated(&mut self, at: u32, operator: Operator) -> Result<Mode, ExprFault>
-        ensures { Answers at (begins at (token.Operator operator) self.old.frames self.old.trees) result self.new.frames self.new.trees }
+        ensures { Answers at (begins at (token.Operator operator) self.old.frames self.old.trees)
+            result self.new.frames self.new.trees }
     {
         match operator {
             Operator::Subtract => {
@@ -137,7 +143,8 @@ impl Parser {
 
     /// The first token of a path in `len` or `same`.
     fn begin_path(&mut self, at: u32, token: Token) -> Result<Mode, ExprFault>
-        ensures { Answers at (begins_path at token self.old.frames self.old.trees) result self.new.frames self.new.trees }
+        ensures { Answers at (begins_path at token self.old.frames self.old.trees)
+            result self.new.frames self.new.trees }
     {
         match token {
             Token::Name(name) => {
@@ -151,7 +158,8 @@ impl Parser {
     /// The token behind a `.`.
     fn name_field(&mut self, at: u32, token: Token) -> Result<Mode, ExprFault>
         requires { StandsAt mode.FieldName self.old.frames self.old.trees }
-        ensures { Answers at (names_field at token self.old.frames self.old.trees) result self.new.frames self.new.trees }
+        ensures { Answers at (names_field at token self.old.frames self.old.trees)
+            result self.new.frames self.new.trees }
     {
         match token {
             Token::Name(name) => {
@@ -165,7 +173,8 @@ impl Parser {
     /// A token behind a path.
     fn extend(&mut self, at: u32, token: Token) -> Result<Mode, ExprFault>
         requires { StandsAt mode.AfterPath self.old.frames self.old.trees }
-        ensures { Answers at (extends at token self.old.frames self.old.trees) result self.new.frames self.new.trees }
+        ensures { Answers at (extends at token self.old.frames self.old.trees)
+            result self.new.frames self.new.trees }
     {
         match token {
             Token::Dot => Ok(Mode::FieldName),
@@ -183,7 +192,8 @@ impl Parser {
         token: Token,
     ) -> Result<Mode, ExprFault>
         requires { StandsAt (mode.AfterName place name) self.old.frames self.old.trees }
-        ensures { Answers at (follows_name place name at token self.old.frames self.old.trees) result self.new.frames self.new.trees }
+        ensures { Answers at (follows_name place name at token self.old.frames self.old.trees)
+            result self.new.frames self.new.trees }
     {
         if !matches!(token, Token::OpenParen) {
             self.trees.push(Node::Name(place, name))?;
@@ -213,7 +223,9 @@ impl Parser {
 
     /// Goes on with a phrase of this level, by an operator.
     fn join(&mut self, at: u32, level: Level, operator: Operator) -> Result<Mode, ExprFault>
-        ensures { Answers at (Some (state mode.Operand (above level (Rung level (Some (record { at = at; operator = operator })) ∷ self.old.frames)) self.old.trees)) result self.new.frames self.new.trees }
+        ensures { Answers at
+            (Some (state mode.Operand (goes_on at level operator self.old.frames) self.old.trees))
+            result self.new.frames self.new.trees }
     {
         self.frames
             .push_rung(level, Some(Pending { at, operator }))?;
@@ -225,7 +237,8 @@ impl Parser {
     fn leave(&mut self, at: u32, bracket: Frame, token: &Token) -> Result<Mode, ExprFault>
         requires bracket { is_bracket bracket ≡ true }
         requires operand { HasOperand (bracket ∷ self.old.frames) self.old.trees }
-        ensures { Answers at (after at token.now (bracket ∷ self.old.frames) self.old.trees) result self.new.frames self.new.trees }
+        ensures { Answers at (after at token.now (bracket ∷ self.old.frames) self.old.trees)
+            result self.new.frames self.new.trees }
     {
         match (bracket, token) {
             (Frame::Group, Token::CloseParen) => Ok(Mode::AfterOperand),
@@ -245,11 +258,12 @@ impl Parser {
         }
     }
 
-    /// A token behind an operand that nothing extends: closes what the operand ends, up to what the token
-    /// belongs to.
+    /// A token behind an operand that nothing extends: closes what the operand ends, up to what the
+    /// token belongs to.
     fn close(&mut self, at: u32, token: &Token) -> Result<Mode, ExprFault>
         requires { HasOperand self.old.frames self.old.trees }
-        ensures { Answers at (after at token.now self.old.frames self.old.trees) result self.new.frames self.new.trees }
+        ensures { Answers at (after at token.now self.old.frames self.old.trees)
+            result self.new.frames self.new.trees }
     {
         while let Some(frame) = self.frames.pop() {
             match frame {
@@ -268,7 +282,8 @@ impl Parser {
 
     /// The token in the place of a text in `same`.
     fn give_text(&mut self, at: u32, token: Token) -> Result<Mode, ExprFault>
-        ensures { Answers at (gives_text token self.old.frames self.old.trees) result self.new.frames self.new.trees }
+        ensures { Answers at (gives_text token self.old.frames self.old.trees)
+            result self.new.frames self.new.trees }
     {
         match token {
             Token::Text(text) => Ok(Mode::EndOfSame(text)),
@@ -279,7 +294,8 @@ impl Parser {
     /// The token in the place of the `)` of `same`.
     fn end_same(&mut self, text: QuotedText, at: u32, token: Token) -> Result<Mode, ExprFault>
         requires { StandsAt (mode.EndOfSame text) self.old.frames self.old.trees }
-        ensures { Answers at (ends_same text token self.old.frames self.old.trees) result self.new.frames self.new.trees }
+        ensures { Answers at (ends_same text token self.old.frames self.old.trees)
+            result self.new.frames self.new.trees }
     {
         match (self.frames.pop(), token) {
             (Some(Frame::Same), Token::CloseParen) => {
@@ -293,7 +309,8 @@ impl Parser {
     /// Takes the next token, in this mode; gives the mode behind it.
     pub fn take(&mut self, mode: Mode, at: u32, token: Token) -> Result<Mode, ExprFault>
         requires { StandsAt mode self.old.frames self.old.trees }
-        ensures { Answers at (step_at mode self.old.frames self.old.trees at token) result self.new.frames self.new.trees }
+        ensures { Answers at (step_at mode self.old.frames self.old.trees at token)
+            result self.new.frames self.new.trees }
     {
         match mode {
             Mode::Operand => self.begin(at, token),
@@ -322,10 +339,12 @@ impl Parser {
         Ok(self.trees.into_expr())
     }
 
-    /// Closes all that an operand at the end of the text may end, which leaves the tree of the whole.
+    /// Closes all that an operand at the end of the text may end, which leaves the tree of the
+    /// whole.
     fn close_all(&mut self, end: u32) -> Result<(), ExprFault>
         requires { HasOperand self.old.frames self.old.trees }
-        ensures { ClosingAnswers end (close_all self.old.frames self.old.trees) result self.new.trees }
+        ensures { ClosingAnswers end (close_all self.old.frames self.old.trees)
+            result self.new.trees }
     {
         while let Some(frame) = self.frames.pop() {
             match frame {

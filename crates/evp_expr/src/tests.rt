@@ -3,6 +3,7 @@
 use crate::{ExprFault, Node, parse};
 use std::alloc::{AllocError, Global};
 use std::str;
+use std::test::Fail;
 
 /// A node with its place.
 fn shown_node(alloc: Global, node: &Node) -> Result<String, AllocError> {
@@ -25,23 +26,24 @@ fn shown_node(alloc: Global, node: &Node) -> Result<String, AllocError> {
     }
 }
 
-/// The nodes of a text's tree, or its fault.
-fn answer(alloc: Global, text: &str) -> Result<String, AllocError> {
+/// The nodes of a copy of a text's tree, or its fault.
+fn answer(alloc: Global, text: &str) -> Result<String, Fail> {
     match parse(alloc, text) {
         Ok(expr) => {
+            let copied = expr.copy(alloc)?;
             let mut nodes = String::new(alloc);
-            for node in expr.nodes() {
+            for node in copied.nodes() {
                 nodes.push_str(shown_node(alloc, node)?.as_str())?;
                 nodes.push_str(" ")?;
             }
             Ok(nodes)
         }
-        Err(fault) => format!(in alloc; "{fault:?}"),
+        Err(fault) => Ok(format!(in alloc; "{fault:?}")?),
     }
 }
 
 #[test]
-fn texts_have_their_trees_and_faults(rt: HostRuntime) -> Result<(), AllocError> {
+fn texts_have_their_trees_and_faults(rt: HostRuntime) -> Result<(), Fail> {
     let cases = [
         ("-7/2", "7 Negate@0 2 Divide@2 "),
         ("-7%2", "7 Negate@0 2 Remainder@2 "),

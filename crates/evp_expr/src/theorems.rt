@@ -1,5 +1,6 @@
 //! Laws of the grammar, each the contract of a function without a body.
-ghost use Rattle.evp_expr.specs.Laws.{OneTree, TreeOrFault, OneFault, EachTextIsAnswered, ReadsBack, TreesAreSound};
+ghost use Rattle.evp_expr.specs.Laws.{OneTree, TreeOrFault, OneFault, EachTextIsAnswered};
+ghost use Rattle.evp_expr.specs.Laws.{ReadsBack, TreesAreSound};
 
 /// A text has one tree at most: the grammar isn't ambiguous.
 pub fn one_tree()
@@ -21,12 +22,14 @@ pub fn each_text_is_answered()
     ensures { EachTextIsAnswered }
 {}
 
-/// In a tree that a text has, a path stands wherever one should, and 390 values are enough to evaluate it.
+/// In a tree that a text has, a path stands wherever one should, and 390 values are enough to
+/// evaluate it.
 pub fn trees_are_sound()
     ensures { TreesAreSound }
 {}
 
-/// A tree that is printed with all its parentheses is read back: nothing that can be printed is refused.
+/// The text of a tree, printed with all its parentheses, is read back as that tree: what can be
+/// printed is never refused, where it has at most 4,096 bytes and opens at most 64 levels.
 pub fn reads_back()
     ensures { ReadsBack }
 {}

@@ -1,6 +1,7 @@
 //! The trees that stand ready while a text is read.
 ghost use Rattle.std.specs.Prelude.{◌≡◌, [], ◌∷◌, ◌++◌, OnOk, length, reverse};
-ghost use Rattle.evp_expr.specs.Nodes.{grow, grown, nodes_of_all, starts_of, CanGrow, HasStart, PutsJoining};
+ghost use Rattle.evp_expr.specs.Nodes.{grow, grown, nodes_of_all, starts_of, CanGrow, HasStart};
+ghost use Rattle.evp_expr.specs.Nodes.{PutsJoining};
 
 use crate::expr::Expr;
 use crate::fault::ExprFault;
@@ -28,7 +29,8 @@ impl Model for Trees {
 
     ghost view = { λ t. grown t.nodes.items [] };
 
-    ghost invariant = { λ t. (t.nodes.items ≡ nodes_of_all (grown t.nodes.items [])) × (reverse t.starts.items ≡ starts_of (grown t.nodes.items [])) };
+    ghost invariant = { λ t. (t.nodes.items ≡ nodes_of_all (grown t.nodes.items []))
+        × (reverse t.starts.items ≡ starts_of (grown t.nodes.items [])) };
 }
 
 impl Trees {

@@ -1,4 +1,4 @@
-use Rattle.evp_expr.proofs.Prints.{reads_back_law}
+use Rattle.evp_expr.proofs.ReadBack.{reads_back_law}
 use Rattle.evp_expr.proofs.theorems.reads_back.Goals as goal
 
 pub returns : goal.returns

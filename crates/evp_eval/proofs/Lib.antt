@@ -1,12 +1,16 @@
 mod Agreements
 mod Bytes
 mod Compiling
+mod Counts
 mod Elements
 mod Examples
 mod Extends
 mod Fields
+mod Leading
+mod Leads
 mod Led
 mod Moves
 mod Records
 mod Runs
+mod Sides
 mod Streams

@@ -6,26 +6,28 @@ use std::alloc::{AllocError, AllocFailed};
 use std::error::Error;
 use std::fmt;
 
-/// Why an expression has no meaning in a format. Places are offsets in bytes of the expression's text,
-/// from 0. Written as `unknown at 3`, with the place.
+/// Why an expression has no meaning in a format. Places are offsets in bytes of the expression's
+/// text, from 0. Written as `unknown at 3`, with the place.
 #[derive(Clone, Copy, Debug, PartialEq, Eq)]
 pub enum BindFault {
-    /// The name here isn't a field of the record type that is reached, or follows what isn't a single
-    /// record.
+    /// The name here isn't a field of the record type that is reached, or follows what isn't a
+    /// single record.
     Unknown(u32),
-    /// The path that begins here stands in a number's place and ends in neither a single number nor an
-    /// element that is one.
+    /// The path that begins here stands in a number's place and ends in neither a single number nor
+    /// an element that is one.
     NotNumber(u32),
-    /// The `[` here follows what isn't an array, or the path in `len` that begins here ends in none.
+    /// The `[` here follows what isn't an array, or the path in `len` that begins here ends in
+    /// none.
     NotList(u32),
-    /// The path in `same` that begins here ends in neither a single string nor an element that is one.
+    /// The path in `same` that begins here ends in neither a single string nor an element that is
+    /// one.
     NotText(u32),
     /// There is no memory for the bound expression.
     Memory,
 }
 
-/// Why an evaluation ends without a number. Places are offsets in bytes of the expression's text, from
-/// 0. Written as `overflow at 3`, with the place.
+/// Why an evaluation ends without a number. Places are offsets in bytes of the expression's text,
+/// from 0. Written as `overflow at 3`, with the place.
 #[derive(Clone, Copy, Debug, PartialEq, Eq)]
 pub enum EvalFault {
     /// The result of the operator here is below -2^127 or above 2^127 - 1.

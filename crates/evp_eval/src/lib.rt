@@ -14,4 +14,6 @@ pub use bound::{Bound, bind, eval};
 pub use fault::{BindFault, EvalFault};
 
 #[cfg(test)]
+mod sample_records;
+#[cfg(test)]
 mod tests;

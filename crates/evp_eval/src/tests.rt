@@ -1,5 +1,9 @@
 //! Expressions over records: values, and each fault at its edge.
 
+use crate::sample_records::{
+    BIG, BIG_RECORD, DEEP, DEEP_RECORD, LIST, LIST_RECORD, LITTLE, LITTLE_RECORD, NESTED,
+    NESTED_RECORD, TEXT, WORDS, WORDS_RECORD,
+};
 use crate::{bind, eval};
 use evp_expr::parse;
 use evp_format::read_description;
@@ -7,50 +11,8 @@ use evp_record::check;
 use std::alloc::Global;
 use std::test::Fail;
 
-// A list `a` of numbers in front of its count `n`: `{a=[5,6],n=2}`.
-const LIST: &[u8] =
-    b"NDF1\0\x04\0\x01\x01p\0\0\0\x08\0\x02\x01a\ninteger[n]\0\0\0\x04\0\0\0\0\x01n\x07integer\0\0\0\x04\0\0\0\x04";
-
-const LIST_RECORD: &[u8] = b"\x08\0\0\0\x02\0\0\0\x05\0\0\0\x06\0\0\0";
-
-// One string, `s`.
-const TEXT: &[u8] = b"NDF1\0\x04\0\x01\x01p\0\0\0\x04\0\x01\x01s\x06string\0\0\0\x04\0\0\0\0";
-
-// A list `v` of strings behind its count: `{n=2,v=["a","b"]}`.
-const WORDS: &[u8] =
-    b"NDF1\0\x04\0\x01\x01p\0\0\0\x08\0\x02\x01n\x10unsigned integer\0\0\0\x04\0\0\0\0\x01v\x09string[n]\0\0\0\x04\0\0\0\x04";
-
-const WORDS_RECORD: &[u8] = b"\x02\0\0\0\x08\0\0\0\x10\0\0\0\x12\0\0\0a\0b\0";
-
-// A record `e` and a list of `e`: `{o={k=7,s=null},l=[{k=1,s="x"},{k=2,s=null}],n=2}`.
-const NESTED: &[u8] =
-    b"NDF1\0\x04\0\x02\x01e\0\0\0\x08\0\x02\x01k\x07integer\0\0\0\x04\0\0\0\0\x01s\x06string\0\0\0\x04\0\0\0\x04\x01r\0\0\0\x10\0\x03\x01o\x01e\0\0\0\x08\0\0\0\0\x01l\x04e[n]\0\0\0\x08\0\0\0\x08\x01n\x07integer\0\0\0\x04\0\0\0\x0c";
-
-const NESTED_RECORD: &[u8] =
-    b"\x07\0\0\0\0\0\0\0\x10\0\0\0\x02\0\0\0\x01\0\0\0\x20\0\0\0\x02\0\0\0\0\0\0\0x\0";
-
-// Two nested records and two lists: `{p={l=[{v=[{i={k=5}}],m=1},{v=[{i={k=6}},{i={k=7}}],m=2}],n=2}}`.
-const DEEP: &[u8] =
-    b"NDF1\0\x04\0\x05\x01d\0\0\0\x04\0\x01\x01k\x07integer\0\0\0\x04\0\0\0\0\x01c\0\0\0\x04\0\x01\x01i\x01d\0\0\0\x04\0\0\0\0\x01b\0\0\0\x08\0\x02\x01v\x04c[m]\0\0\0\x04\0\0\0\0\x01m\x07integer\0\0\0\x04\0\0\0\x04\x01a\0\0\0\x08\0\x02\x01l\x04b[n]\0\0\0\x08\0\0\0\0\x01n\x07integer\0\0\0\x04\0\0\0\x04\x01r\0\0\0\x08\0\x01\x01p\x01a\0\0\0\x08\0\0\0\0";
-
-const DEEP_RECORD: &[u8] =
-    b"\x08\0\0\0\x02\0\0\0\x18\0\0\0\x01\0\0\0\x1c\0\0\0\x02\0\0\0\x05\0\0\0\x06\0\0\0\x07\0\0\0";
-
-// A number of each kind, and of each size, in both orders.
-const LITTLE: &[u8] =
-    b"NDF1\0\x08\0\x01\x01p\0\0\0\x18\0\x07\x01a\x07integer\0\0\0\x01\0\0\0\0\x01b\x10unsigned integer\0\0\0\x02\0\0\0\x02\x01c\x07integer\0\0\0\x04\0\0\0\x04\x01d\x10unsigned integer\0\0\0\x08\0\0\0\x08\x01e\x04char\0\0\0\x01\0\0\0\x01\x01f\x07boolean\0\0\0\x04\0\0\0\x10\x01g\x0benumeration\0\0\0\x02\0\0\0\x14";
-
-const LITTLE_RECORD: &[u8] =
-    b"\xfe\xc8\x02\x01\xfd\xff\xff\xff\x01\0\0\0\0\0\0\x80\0\x01\0\0\xff\xff\0\0";
-
-const BIG: &[u8] =
-    b"NDF1\x01\x08\0\x01\x01p\0\0\0\x18\0\x07\x01a\x07integer\0\0\0\x01\0\0\0\0\x01b\x10unsigned integer\0\0\0\x02\0\0\0\x02\x01c\x07integer\0\0\0\x04\0\0\0\x04\x01d\x10unsigned integer\0\0\0\x08\0\0\0\x08\x01e\x04char\0\0\0\x01\0\0\0\x01\x01f\x07boolean\0\0\0\x04\0\0\0\x10\x01g\x0benumeration\0\0\0\x02\0\0\0\x14";
-
-const BIG_RECORD: &[u8] =
-    b"\xfe\xc8\x01\x02\xff\xff\xff\xfd\x80\0\0\0\0\0\0\x01\0\x01\0\0\xff\xff\0\0";
-
 // An expression over the list's record, and its value or fault.
-const NUMBERS: [(&str, &str); 34] = [
+const NUMBERS: [(&str, &str); 37] = [
     ("-7/2", "-3"),
     ("7 / -2", "-3"),
     ("-7%2", "-1"),
@@ -81,6 +43,18 @@ const NUMBERS: [(&str, &str); 34] = [
         "170141183460469231731687303715884105727 * 2",
         "overflow at 40",
     ),
+    (
+        "-170141183460469231731687303715884105727 - 1",
+        "-170141183460469231731687303715884105728",
+    ),
+    (
+        "-170141183460469231731687303715884105727 - 2",
+        "overflow at 41",
+    ),
+    (
+        "170141183460469231731687303715884105726 + 1",
+        "170141183460469231731687303715884105727",
+    ),
     ("!0 + !7", "1"),
     ("(1 < 2) + (2 <= 2) + (3 > 4) + (4 >= 5)", "2"),
     ("(1 == 1) + (1 != 1)", "1"),
@@ -100,7 +74,7 @@ const NUMBERS: [(&str, &str); 34] = [
 ];
 
 // A description, a record of it, an expression, and its value or fault.
-const RECORDS: [(&[u8], &[u8], &str, &str); 31] = [
+const RECORDS: [(&[u8], &[u8], &str, &str); 27] = [
     (TEXT, b"\0\0\0\0", "same(s,\"\")", "0"),
     (TEXT, b"\x04\0\0\0\0", "same(s,\"\")", "1"),
     (TEXT, b"\x04\0\0\0a\0", "same(s,\"\")", "0"),
@@ -132,11 +106,30 @@ const RECORDS: [(&[u8], &[u8], &str, &str); 31] = [
     (DEEP, DEEP_RECORD, "p.l[0].v[0].i.k", "5"),
     (DEEP, DEEP_RECORD, "p.l[0].v[1].i.k", "index at 8"),
     (DEEP, DEEP_RECORD, "len(p.l[1].v) * 10 + len(p.l)", "22"),
-    (LITTLE, LITTLE_RECORD, "a + b + c + e + f + g", "453"),
-    (LITTLE, LITTLE_RECORD, "d", "9223372036854775809"),
-    (BIG, BIG_RECORD, "a + b + c + e + f + g", "453"),
-    (BIG, BIG_RECORD, "d", "9223372036854775809"),
     (LIST, LIST_RECORD, "len(a[1])", "not a list at 4"),
+];
+
+// A number of each kind and size, and its value in both orders: a boolean is 0 or 1.
+const KINDS: [(&str, &str); 19] = [
+    ("i8", "-2"),
+    ("u8", "72623859790382856"),
+    ("b8", "1"),
+    ("e8", "-72057594037927936"),
+    ("i4", "-2147483648"),
+    ("u4", "4000000000"),
+    ("b4", "0"),
+    ("e4", "16909060"),
+    ("i2", "-32767"),
+    ("u2", "65281"),
+    ("b2", "1"),
+    ("e2", "-2"),
+    ("i1", "-128"),
+    ("u1", "200"),
+    ("c1", "255"),
+    ("b1", "1"),
+    ("e1", "-1"),
+    ("v[0]", "258"),
+    ("v[1]", "-2"),
 ];
 
 // The value of an expression over a record, or the text of its fault.
@@ -173,6 +166,17 @@ fn values_and_faults_over_records(rt: HostRuntime) -> Result<(), Fail> {
     for (description, bytes, text, want) in RECORDS {
         let found = answer(rt.alloc(), description, bytes, text)?;
         assert_eq!(rt; found.as_str(), want, "at {text}");
+    }
+    Ok(())
+}
+
+#[test]
+fn each_kind_and_size_in_both_orders(rt: HostRuntime) -> Result<(), Fail> {
+    for (text, want) in KINDS {
+        let little = answer(rt.alloc(), LITTLE, LITTLE_RECORD, text)?;
+        assert_eq!(rt; little.as_str(), want, "at {text}");
+        let big = answer(rt.alloc(), BIG, BIG_RECORD, text)?;
+        assert_eq!(rt; big.as_str(), want, "at {text}");
     }
     Ok(())
 }

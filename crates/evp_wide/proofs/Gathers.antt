@@ -3,12 +3,12 @@ use Rattle.std.proofs.Common.{◌≡◌, ℕ, ◌+◌, ◌*◌, ◌/◌, ◌<◌
 use Rattle.std.proofs.Common.{T, subst, zero-add, drop-drop, ltb, leb, sym, refl, ap, ◌∙◌, ⊎_elim, w8, arith}
 use Rattle.std.proofs.lemmas.Bool.Decides.{nat_tests}
 use Rattle.std.proofs.lemmas.Grind.{same_number_lists}
-use Rattle.std.proofs.lemmas.List.{get_or-map, get_or-take, length-map}
+use Rattle.std.proofs.lemmas.List.{get_or-map, get_or-take, length-map, length-take, length-drop}
 use Rattle.std.proofs.lemmas.Simd.{swz_l, SwzOk, SwzOk-from_Each1, Each1-from_get_or, length-swz_l, get_or-swz_l, put_chunk_is}
 use Rattle.std.proofs.lemmas.Simd.{length-zip2}
 use lib.Lanes.{put_chunk, zip2}
-use lib.Bits.{bit_or}
-use Rattle.evp_wide.specs.Gathered.{picked, gathered, with_constant, ArePlaces}
+use lib.Bits.{bit_or, bit_and}
+use Rattle.evp_wide.specs.Gathered.{picked, gathered, with_constant, with_kept, ArePlaces}
 
 tested : (place : ℕ) → (place < 16) ⊎ (128 ≤ place) → (leb 128 place || ltb place 16) ≡ true
 tested place is = grind (arith, nat_tests)
@@ -59,3 +59,20 @@ stored_with to out bytes mask constant room long constant_long places =
     ap (λ l. put_chunk to out (zip2 bit_or l constant)) (shuffled bytes mask long places)
     ∙ put_sixteen to out (with_constant (gathered mask bytes) constant) room
     (length-zip2 bit_or (gathered mask bytes) constant (sixteen ∙ sym constant_long) ∙ sixteen)
+
+-- the same with what stood there
+pub stored_blend : (to : ℕ) (out bytes mask keep constant : List ℕ) → to + 16 ≤ length out → length mask ≡ 16 → length keep ≡ 16
+    → length constant ≡ 16 → ArePlaces mask
+    → put_chunk to out (zip2 bit_or (zip2 bit_or (swz_l w8 16 (take 16 bytes) 0 mask) (zip2 bit_and (take 16 (drop to out)) keep)) constant)
+    ≡ take to out ++ (with_constant (with_kept (gathered mask bytes) keep (drop to out)) constant ++ drop (to + 16) out)
+stored_blend to out bytes mask keep constant room long keep_long constant_long places =
+    let sixteen : length (gathered mask bytes) ≡ 16 = length-map mask (picked bytes) ∙ long in
+    let stood = take 16 (drop to out) in
+    let stood_long : length stood ≡ 16 = omega (arith, length-take 16 (drop to out), length-drop to out) in
+    let kept_long : length (zip2 bit_and stood keep) ≡ 16 = length-zip2 bit_and stood keep (stood_long ∙ sym keep_long) ∙ stood_long in
+    let kept = with_kept (gathered mask bytes) keep (drop to out) in
+    let blended_long : length kept ≡ 16 =
+    length-zip2 bit_or (gathered mask bytes) (zip2 bit_and stood keep) (sixteen ∙ sym kept_long) ∙ sixteen in
+    ap (λ l. put_chunk to out (zip2 bit_or (zip2 bit_or l (zip2 bit_and stood keep)) constant)) (shuffled bytes mask long places)
+    ∙ put_sixteen to out (with_constant kept constant) room
+    (length-zip2 bit_or kept constant (blended_long ∙ sym constant_long) ∙ blended_long)

@@ -1,7 +1,7 @@
 -- Bytes picked from a window of sixteen.
 use lib.Lanes.{zip2}
-use Rattle.std.specs.Prelude.{ℕ, ◌<◌, ◌≤◌, ◌⊎◌, nat_lt, if◌then◌else◌, List, map, slice_index}
-use Rattle.std.specs.Prelude.{All, bit_or}
+use Rattle.std.specs.Prelude.{ℕ, ◌<◌, ◌≤◌, ◌⊎◌, nat_lt, if◌then◌else◌, List, map, take, slice_index}
+use Rattle.std.specs.Prelude.{All, bit_or, bit_and}
 
 -- a byte of the window, or 0 where the place is none
 abbrev pub picked : List ℕ → ℕ → ℕ
@@ -18,3 +18,7 @@ ArePlaces mask = All (λ place. (place < 16) ⊎ (128 ≤ place)) mask
 -- each byte with the constant's bits set too
 abbrev pub with_constant : List ℕ → List ℕ → List ℕ
 with_constant bytes constant = zip2 bit_or bytes constant
+
+-- each of sixteen bytes with those bits set too that stood there and are kept
+abbrev pub with_kept : List ℕ → List ℕ → List ℕ → List ℕ
+with_kept bytes keep stood = zip2 bit_or bytes (zip2 bit_and (take 16 stood) keep)

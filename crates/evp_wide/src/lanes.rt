@@ -1,6 +1,6 @@
 //! Sixteen bytes at once, each one of sixteen others or 0.
 ghost use Rattle.std.specs.Prelude.{◌≡◌, ◌+◌, ◌<◌, ◌≤◌, ◌++◌, true, length, take, drop};
-ghost use Rattle.evp_wide.specs.Gathered.{gathered, with_constant, ArePlaces};
+ghost use Rattle.evp_wide.specs.Gathered.{gathered, with_constant, with_kept, ArePlaces};
 ghost use Rattle.evp_wide.specs.Masks.{are_within};
 
 use std::simd::prelude::*;
@@ -47,6 +47,39 @@ pub fn gather_or(
     let window = u8x16::from_slice(&from[at..]);
     let picked = window.swizzle_dyn_within::<16>(u8x16::from_array(mask.places));
     let whole = picked | u8x16::from_array(*constant);
+    whole.copy_to_slice(&mut out[to..]);
+}
+
+/// How sixteen bytes are made from a window of sixteen and those that stood there.
+#[derive(Clone, Copy, Debug)]
+pub struct Blend {
+    /// Which bytes of the window are picked.
+    pub mask: Mask,
+    /// The bits that stay as they stood, beside those that are picked.
+    pub keep: [u8; 16],
+    /// The bits that are set.
+    pub constant: [u8; 16],
+    ghost keeps: { length keep ≡ 16 },
+    ghost sets: { length constant ≡ 16 },
+}
+
+/// Writes sixteen bytes from `to` on, made from the sixteen from `at` on and those that stood there.
+/// It takes no memory.
+#[inline(always)]
+pub fn gather_blend(out: &mut [u8], to: usize, from: &[u8], at: usize, blend: &Blend)
+    requires window { at + 16 ≤ length from.now }
+    requires room { to + 16 ≤ length out.old }
+    ensures { out.new
+        ≡ take to out.old
+        ++ (with_constant (with_kept (gathered blend.now.mask.places (drop at from.now))
+        blend.now.keep (drop to out.old)) blend.now.constant
+        ++ drop (to + 16) out.old) }
+{
+    let window = u8x16::from_slice(&from[at..]);
+    let stood = u8x16::from_slice(&out[to..]);
+    let picked = window.swizzle_dyn_within::<16>(u8x16::from_array(blend.mask.places));
+    let kept = stood & u8x16::from_array(blend.keep);
+    let whole = picked | kept | u8x16::from_array(blend.constant);
     whole.copy_to_slice(&mut out[to..]);
 }
 

@@ -6,7 +6,7 @@ mod lanes;
 mod swap;
 mod widen;
 
-pub use lanes::{Mask, gather, gather_or};
+pub use lanes::{Blend, Mask, gather, gather_blend, gather_or};
 pub use swap::{swap2, swap4, swap8};
 pub use widen::{widen_signed, widen_unsigned};
 

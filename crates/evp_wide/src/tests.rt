@@ -86,5 +86,20 @@ fn a_mask_picks_from_its_window(rt: HostRuntime) -> Result<(), Fail> {
     gather_or(&mut out, 4, &from, 0, &mask, &[0x40; 16]);
     assert_eq!(rt; &out[4..8], [0x43, 0x42, 0x41, 0x40].as_slice());
     assert_eq!(rt; out[8], 0x40);
+    let mut blend = Blend {
+        mask,
+        keep: [0; 16],
+        constant: [0; 16],
+    };
+    blend.keep[4] = 0xff;
+    blend.constant[6] = 7;
+    let mut out = [0x11; 20];
+    gather_blend(&mut out, 2, &from, 4, &blend);
+    assert_eq!(rt;
+        out,
+        [
+            0x11, 0x11, 7, 6, 5, 4, 0x11, 8, 7, 19, 11, 10, 9, 8, 0, 0, 13, 12, 0x11, 0x11,
+        ]
+    );
     Ok(())
 }

@@ -22,7 +22,14 @@ use Rattle.evp_plan.specs.Planned.{laid_out}
 use Rattle.evp_plan.specs.Program.{Program}
 
 abbrev field_of : ℕ → Base → Shape → ℕ → ℕ → ℤ → Field
-field_of letter base shape size offset fallback = record { name = letter ∷ []; base = base; shape = shape; size = size; offset = offset; fallback = fallback }
+field_of letter base shape size offset fallback = record {
+  name = letter ∷ [];
+  base = base;
+  shape = shape;
+  size = size;
+  offset = offset;
+  fallback = fallback;
+}
 
 abbrev int_field : ℕ → ℕ → ℕ → Field
 int_field letter size offset = field_of letter (Number Int) One size offset (pos 0)
@@ -62,7 +69,8 @@ minus_one_is_not_unsigned = refl
 greatest_signed_fits : found unsigned_wide wide 4096 (127 ∷ 255 ∷ 255 ∷ 255 ∷ 255 ∷ 255 ∷ 255 ∷ 255 ∷ []) ≡ made tt 8
 greatest_signed_fits = refl
 
-greatest_signed_is_swapped : written unsigned_wide wide (127 ∷ 255 ∷ 255 ∷ 255 ∷ 255 ∷ 255 ∷ 255 ∷ 255 ∷ []) ≡ 255 ∷ 255 ∷ 255 ∷ 255 ∷ 255 ∷ 255 ∷ 255 ∷ 127 ∷ []
+greatest_signed_is_swapped : written unsigned_wide wide (127 ∷ 255 ∷ 255 ∷ 255 ∷ 255 ∷ 255 ∷ 255 ∷ 255 ∷ []) ≡ 255 ∷ 255 ∷ 255 ∷ 255 ∷ 255
+    ∷ 255 ∷ 255 ∷ 127 ∷ []
 greatest_signed_is_swapped = refl
 
 next_number_does_not_fit : found unsigned_wide wide 4096 (128 ∷ 0 ∷ 0 ∷ 0 ∷ 0 ∷ 0 ∷ 0 ∷ 0 ∷ []) ≡ unfit (At 0 ∷ [])
@@ -70,7 +78,8 @@ next_number_does_not_fit = refl
 
 -- fields are matched by name, and one without a partner is 0
 
-names_match : written (layout_of Little 8 (type_of 8 (int_field 120 4 0 ∷ int_field 122 4 4 ∷ []) ∷ [])) (layout_of Little 4 (type_of 8 (int_field 121 4 0 ∷ int_field 120 2 4 ∷ []) ∷ []))
+names_match : written (layout_of Little 8 (type_of 8 (int_field 120 4 0 ∷ int_field 122 4 4 ∷ []) ∷ []))
+    (layout_of Little 4 (type_of 8 (int_field 121 4 0 ∷ int_field 120 2 4 ∷ []) ∷ []))
     (7 ∷ 0 ∷ 0 ∷ 0 ∷ 9 ∷ 0 ∷ 0 ∷ 0 ∷ []) ≡ 0 ∷ 0 ∷ 0 ∷ 0 ∷ 7 ∷ 0 ∷ 0 ∷ 0 ∷ []
 names_match = refl
 
@@ -94,7 +103,8 @@ counted_widens : written counted counted_wide five_and_six
     ≡ 0 ∷ 0 ∷ 0 ∷ 2 ∷ 0 ∷ 0 ∷ 0 ∷ 8 ∷ 0 ∷ 0 ∷ 0 ∷ 0 ∷ 0 ∷ 0 ∷ 0 ∷ 5 ∷ 0 ∷ 0 ∷ 0 ∷ 0 ∷ 0 ∷ 0 ∷ 0 ∷ 6 ∷ []
 counted_widens = refl
 
-two_are_not_three : found counted (layout_of Little 4 (type_of 12 (field_of 97 (Number Int) (Fixed 3) 4 0 (pos 0) ∷ []) ∷ [])) 4096 five_and_six ≡ unfit (At 0 ∷ [])
+two_are_not_three : found counted (layout_of Little 4 (type_of 12 (field_of 97 (Number Int) (Fixed 3) 4 0 (pos 0) ∷ []) ∷ [])) 4096
+    five_and_six ≡ unfit (At 0 ∷ [])
 two_are_not_three = refl
 
 -- an array without a partner has as many zeros as its count says
@@ -129,7 +139,8 @@ pairs size =
 
 abbrev two_pairs : ℕ → List ℕ
 two_pairs second =
-    5 ∷ 0 ∷ 0 ∷ 0 ∷ 0 ∷ 0 ∷ 0 ∷ 0 ∷ 0 ∷ 0 ∷ 0 ∷ 0 ∷ 0 ∷ 0 ∷ 0 ∷ 0 ∷ 44 ∷ second ∷ 0 ∷ 0 ∷ 0 ∷ 0 ∷ 0 ∷ 0 ∷ 32 ∷ 0 ∷ 0 ∷ 0 ∷ 0 ∷ 0 ∷ 0 ∷ 0 ∷ 97 ∷ 0 ∷ []
+    5 ∷ 0 ∷ 0 ∷ 0 ∷ 0 ∷ 0 ∷ 0 ∷ 0 ∷ 0 ∷ 0 ∷ 0 ∷ 0 ∷ 0 ∷ 0 ∷ 0 ∷ 0 ∷ 44 ∷ second ∷ 0 ∷ 0 ∷ 0 ∷ 0 ∷ 0 ∷ 0 ∷ 32 ∷ 0 ∷ 0 ∷ 0 ∷ 0 ∷ 0 ∷ 0 ∷ 0
+    ∷ 97 ∷ 0 ∷ []
 
 number_inside_is_unfit : found (pairs 8) (pairs 1) 4096 (two_pairs 1) ≡ unfit (At 0 ∷ Nth 1 ∷ At 0 ∷ [])
 number_inside_is_unfit = refl
@@ -145,17 +156,20 @@ pairs_are_written = refl
 
 -- records of defaults
 abbrev five_twice : Layout
-five_twice = layout_of Little 4 (type_of 4 (field_of 107 (Number Int) One 4 0 (pos 5) ∷ []) ∷ type_of 8 (field_of 112 (Nested 0) (Fixed 2) 4 0 (pos 0) ∷ []) ∷ [])
+five_twice = layout_of Little 4 (type_of 4 (field_of 107 (Number Int) One 4 0 (pos 5) ∷ [])
+    ∷ type_of 8 (field_of 112 (Nested 0) (Fixed 2) 4 0 (pos 0) ∷ []) ∷ [])
 
 defaults_in_records : written small five_twice (7 ∷ 0 ∷ 0 ∷ 0 ∷ []) ≡ 5 ∷ 0 ∷ 0 ∷ 0 ∷ 5 ∷ 0 ∷ 0 ∷ 0 ∷ []
 defaults_in_records = refl
 
 -- a default of -1 before a number that widens
-stated_default_is_written : written small (layout_of Big 8 (type_of 16 (field_of 121 (Number Int) One 4 0 (negsuc 0) ∷ int_field 120 8 8 ∷ []) ∷ [])) (7 ∷ 0 ∷ 0 ∷ 0 ∷ [])
+stated_default_is_written : written small
+    (layout_of Big 8 (type_of 16 (field_of 121 (Number Int) One 4 0 (negsuc 0) ∷ int_field 120 8 8 ∷ []) ∷ [])) (7 ∷ 0 ∷ 0 ∷ 0 ∷ [])
     ≡ 255 ∷ 255 ∷ 255 ∷ 255 ∷ 0 ∷ 0 ∷ 0 ∷ 0 ∷ 0 ∷ 0 ∷ 0 ∷ 0 ∷ 0 ∷ 0 ∷ 0 ∷ 7 ∷ []
 stated_default_is_written = refl
 
 -- a boolean is stored as 0 or 1
-truth_is_one : written (layout_of Little 4 (type_of 2 (field_of 98 (Number Boolean) One 2 0 (pos 0) ∷ []) ∷ [])) (layout_of Little 4 (type_of 2 (field_of 98 (Number Boolean) One 2 0 (pos 0) ∷ []) ∷ [])) (2 ∷ 0 ∷ [])
+truth_is_one : written (layout_of Little 4 (type_of 2 (field_of 98 (Number Boolean) One 2 0 (pos 0) ∷ []) ∷ []))
+    (layout_of Little 4 (type_of 2 (field_of 98 (Number Boolean) One 2 0 (pos 0) ∷ []) ∷ [])) (2 ∷ 0 ∷ [])
     ≡ 1 ∷ 0 ∷ []
 truth_is_one = refl

@@ -1,4 +1,5 @@
 mod Agreeing
+mod Alikes
 mod Arrays
 mod Conversions
 mod Defaults
@@ -10,3 +11,8 @@ mod Readiness
 mod Sent
 mod Sounds
 mod Tables
+pub mod NumberCells
+pub mod Painting
+pub mod Gathered
+pub mod Painted
+pub mod Compiled

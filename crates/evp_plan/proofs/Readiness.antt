@@ -1,5 +1,6 @@
 -- The compiled steps read inside a sender's record.
-use Rattle.std.proofs.Common.{◌≡◌, ℕ, zero, suc, ◌+◌, ◌*◌, ◌<◌, ◌≤◌, ℤ, pos, negsuc, Bool, true, false, ◌||◌, not, nat_lt, nat_eq, IsTrue, List, [], ◌∷◌, ◌++◌, length, drop, Option, Some, None, refl, sym, ap, ◌∙◌, subst, arith, rules}
+use Rattle.std.proofs.Common.{◌≡◌, ℕ, zero, suc, ◌+◌, ◌*◌, ◌<◌, ◌≤◌, ℤ, pos, negsuc, Bool, true, false, ◌||◌, not, nat_lt, nat_eq, IsTrue}
+use Rattle.std.proofs.Common.{List, [], ◌∷◌, ◌++◌, length, drop, Option, Some, None, refl, sym, ap, ◌∙◌, subst, arith, rules}
 use Rattle.std.specs.Prelude.{slice_get, IsSome, ⊤, if◌then◌else◌}
 use Rattle.std.proofs.Math.Nat.{mul-le-mul_left}
 use Rattle.std.proofs.lemmas.Bool.Decides.{nat_tests}
@@ -12,21 +13,28 @@ use Rattle.evp_format.specs.declared.field.Shape.TheVariants.{One, Fixed, Counte
 use Rattle.evp_format.specs.declared.place.PlaceStep.{PlaceStep}
 use Rattle.evp_format.specs.declared.place.PlaceStep.TheVariants.{Nth}
 use Rattle.evp_format.specs.Bytes.{bytes_equal}
-use Rattle.evp_format.specs.Clashing.{is_array, same_shape, same_part, branch_named, clash_partners, clash_branches, clash_parts}
+use Rattle.evp_format.specs.Clashing.{branch_named, clash_partners, clash_branches, clash_parts}
 use Rattle.evp_format.specs.Datum.{Datum, list, Elements, empty_list, element, Entries, empty_record, count_of, named}
 use Rattle.evp_format.specs.Converting.{entries_of}
 use Rattle.evp_format.specs.LaidTree.{Matches, IsLaidRecord, IsLaidTree, AreLaidBranches, IsLaidPart}
 use Rattle.evp_format.specs.Tree.{Tree, tree, Branches, no_fields, branch, Part, number_part, text_part, tree_part, branch_at, fields_of}
-use Rattle.evp_format.specs.Viewing.{Image, Walked, read, broken, unless, view_part, view_counted, view_elements, view_string, ended_text, until_zero, as_list, pointer_at, field_number}
+use Rattle.evp_format.specs.Viewing.{Image, Walked, read, broken, unless, view_part, view_counted, view_elements, view_string, ended_text}
+use Rattle.evp_format.specs.Viewing.{until_zero, as_list, pointer_at, field_number}
 use Rattle.evp_format.specs.WellLaid.{extent, shape_extent, HasShape}
 use Rattle.evp_format.specs.Zero.{as_count}
 use Rattle.evp_plan.specs.declared.step.Run.{Run}
-use Rattle.evp_plan.specs.Matching.{Content, numbers, texts, records, content_of, known_branches, known_named, number_origin, single_origin, wanted_origin, run_by, run_for, part_for, offset_of, or_zero, op_for, inside_partner, compiled_tree, compiled, compiled_part}
-use Rattle.evp_plan.specs.Ready.{IsOriginThere, IsTextAt, IsTextBy, IsTextThere, IsPartThere, IsStartThere, IsRunThere, IsDefaultThere, AreElementsThere, IsOpThere, IsReady}
+use Rattle.evp_plan.specs.Matching.{Content, numbers, texts, records, content_of, known_branches, known_named, number_origin, single_origin}
+use Rattle.evp_plan.specs.Matching.{wanted_origin, run_by, run_for, part_for, offset_of, or_zero, op_for, inside_partner, compiled_tree}
+use Rattle.evp_plan.specs.Matching.{compiled, compiled_part}
+use Rattle.evp_plan.specs.Ready.{IsOriginThere, IsTextAt, IsTextBy, IsTextThere, IsPartThere, IsStartThere, IsRunThere, IsDefaultThere}
+use Rattle.evp_plan.specs.Ready.{AreElementsThere, IsOpThere, IsReady}
 use Rattle.evp_plan.specs.Standing.{origin_number, run_start, run_count, element_place}
-use Rattle.evp_plan.proofs.Conversions.{branches_in, AreAlike, alike_branches, alike_with, alike_at, IsAlike, clash_of_trees, RecordGiven, record_given}
+use Rattle.evp_plan.proofs.Alikes.{is_array, same_shape, same_part}
+use Rattle.evp_plan.proofs.Conversions.{branches_in, AreAlike, alike_branches, alike_with, alike_at, IsAlike, clash_of_trees, RecordGiven}
+use Rattle.evp_plan.proofs.Conversions.{record_given}
 use Rattle.evp_plan.proofs.Defaults.{no_clash_with_nothing}
-use Rattle.evp_plan.proofs.Sent.{passed, PartSent, FieldSent, RecordSent, IsPartner, EachSent, ArraySent, nothing_sent, partner, known_of, known_named-branches, slice_get-known, record_sent, single_sent, array_sent, origin_of_own_count}
+use Rattle.evp_plan.proofs.Sent.{passed, PartSent, FieldSent, RecordSent, IsPartner, EachSent, ArraySent, nothing_sent, partner, known_of}
+use Rattle.evp_plan.proofs.Sent.{known_named-branches, slice_get-known, record_sent, single_sent, array_sent, origin_of_own_count}
 use Rattle.evp_plan.proofs.Sounds.{AreWithin, within_laid}
 
 -- a record with these fields is inside the bytes, and its counts are single numbers
@@ -34,17 +42,25 @@ pub record IsInside (image : Image) (from : Branches) (at : ℕ) : Type 0 where
   pub long : ℕ
   pub laid : AreLaidBranches image.pointer from
   pub each : AreWithin image.pointer long (fields_of from)
-  pub counts : (k c : ℕ) (field counter : Field) → slice_get (fields_of from) k ≡ Some field → field.shape ≡ Counted c → slice_get (fields_of from) c ≡ Some counter → counter.shape ≡ One
+  pub counts : (k c : ℕ) (field counter : Field) → slice_get (fields_of from) k ≡ Some field → field.shape ≡ Counted c
+      → slice_get (fields_of from) c ≡ Some counter → counter.shape ≡ One
   pub fits : at + long ≤ length image.bytes
 
 pub nothing_inside : (image : Image) (at : ℕ) → at ≤ length image.bytes → IsInside image no_fields at
 nothing_inside image at fits =
-    record { long = 0; laid = tt; each = λ k field found. absurd (cc); counts = λ k c field counter found is there. absurd (cc); fits = omega (arith, fits) }
+    record {
+      long = 0;
+      laid = tt;
+      each = λ k field found. absurd (cc);
+      counts = λ k c field counter found is there. absurd (cc);
+      fits = omega (arith, fits);
+    }
 
 same_field : (a b : Field) → Some a ≡ Some b → a ≡ b
 same_field a b is = cc
 
-pub inside_laid : (image : Image) (long at : ℕ) (from : Branches) → IsLaidTree image.pointer (tree long from) → at + long ≤ length image.bytes → IsInside image from at
+pub inside_laid : (image : Image) (long at : ℕ) (from : Branches) → IsLaidTree image.pointer (tree long from)
+    → at + long ≤ length image.bytes → IsInside image from at
 inside_laid image long at from laid fits =
     let record_laid = laid.0 in
     let in_type : (k : ℕ) (field : Field) → slice_get (fields_of from) k ≡ Some field → slice_get record_laid.type.fields k ≡ Some field =
@@ -54,7 +70,8 @@ inside_laid image long at from laid fits =
       laid = laid.1;
       each = within_laid image.pointer long from record_laid;
       counts = λ k c field counter found is there.
-          (let shaped : HasShape record_laid.type.fields (Counted c) = subst (HasShape record_laid.type.fields) is (record_laid.laid.each_field k field (in_type k field found)).shape_allowed in
+          (let shaped : HasShape record_laid.type.fields (Counted c) = subst (HasShape record_laid.type.fields) is
+          (record_laid.laid.each_field k field (in_type k field found)).shape_allowed in
           let same = same_field counter shaped.0 (sym (in_type c counter there) ∙ shaped.1) in
           ap (λ (f : Field). f.shape) same ∙ shaped.2);
       fits = fits;
@@ -75,39 +92,48 @@ abbrev IsNamed : Image → Branches → ℕ → Option (Field × Part) → Type 
 IsNamed image from at None = ⊤
 IsNamed image from at (Some (field, part)) = FieldHeld image from at field part
 
-named_later : (image : Image) (at : ℕ) (first : Field) (first_part : Part) (rest : Branches) (found : Option (Field × Part)) → IsNamed image rest at found → IsNamed image (branch first first_part rest) at found
+named_later : (image : Image) (at : ℕ) (first : Field) (first_part : Part) (rest : Branches) (found : Option (Field × Part))
+    → IsNamed image rest at found → IsNamed image (branch first first_part rest) at found
 named_later image at first first_part rest None held = tt
-named_later image at first first_part rest (Some (field, part)) held = record { number = suc held.number; there = held.there; held = held.held }
+named_later image at first first_part rest (Some (field, part)) held = record
+    { number = suc held.number; there = held.there; held = held.held }
 
-named_if : (image : Image) (from : Branches) (at : ℕ) (same : Bool) (field : Field) (part : Part) (found : Option (Field × Part)) → FieldHeld image from at field part → IsNamed image from at found
+named_if : (image : Image) (from : Branches) (at : ℕ) (same : Bool) (field : Field) (part : Part) (found : Option (Field × Part))
+    → FieldHeld image from at field part → IsNamed image from at found
     → IsNamed image from at (if same then Some (field, part) else found)
 named_if image from at true field part found here later = here
 named_if image from at false field part found here later = later
 
-named_held : (image : Image) (from : Branches) (at long : ℕ) (name : List ℕ) → AreLaidBranches image.pointer from → AreWithin image.pointer long (fields_of from) → at + long ≤ length image.bytes
+named_held : (image : Image) (from : Branches) (at long : ℕ) (name : List ℕ) → AreLaidBranches image.pointer from
+    → AreWithin image.pointer long (fields_of from) → at + long ≤ length image.bytes
     → IsNamed image from at (branch_named name from)
 named_held image no_fields at long name laid each fits = tt
 named_held image (branch field part rest) at long name laid each fits =
     let inside = each 0 field refl in
     named_if image (branch field part rest) at (bytes_equal name field.name) field part (branch_named name rest)
     (record { number = 0; there = refl; held = record { within = omega (arith, inside, fits); laid = laid.1 } })
-    (named_later image at field part rest (branch_named name rest) (named_held image rest at long name laid.2 (λ k other found. each (suc k) other found) fits))
+    (named_later image at field part rest (branch_named name rest)
+    (named_held image rest at long name laid.2 (λ k other found. each (suc k) other found) fits))
 
-numbered_held : (image : Image) (from : Branches) (at long k : ℕ) → AreLaidBranches image.pointer from → AreWithin image.pointer long (fields_of from) → at + long ≤ length image.bytes
+numbered_held : (image : Image) (from : Branches) (at long k : ℕ) → AreLaidBranches image.pointer from
+    → AreWithin image.pointer long (fields_of from) → at + long ≤ length image.bytes
     → IsNamed image from at (branch_at from k)
 numbered_held image no_fields at long k laid each fits = tt
 numbered_held image (branch field part rest) at long zero laid each fits =
     let inside = each 0 field refl in
     record { number = 0; there = refl; held = record { within = omega (arith, inside, fits); laid = laid.1 } }
 numbered_held image (branch field part rest) at long (suc k) laid each fits =
-    named_later image at field part rest (branch_at rest k) (numbered_held image rest at long k laid.2 (λ i other found. each (suc i) other found) fits)
+    named_later image at field part rest (branch_at rest k)
+    (numbered_held image rest at long k laid.2 (λ i other found. each (suc i) other found) fits)
 
-partner_held : (image : Image) (from : Branches) (at : ℕ) (name : List ℕ) → IsInside image from at → IsNamed image from at (branch_named name from)
+partner_held : (image : Image) (from : Branches) (at : ℕ) (name : List ℕ) → IsInside image from at
+    → IsNamed image from at (branch_named name from)
 partner_held image from at name inside = named_held image from at inside.long name inside.laid inside.each inside.fits
 
 -- ---- numbers
 
-single_there : (image : Image) (at : ℕ) (field : Field) (kind : Kind) → field.shape ≡ One → IsHeld image at field (number_part kind) → (at + field.offset + field.size ≤ length image.bytes) × IsTrue (is_size_of kind field.size)
+single_there : (image : Image) (at : ℕ) (field : Field) (kind : Kind) → field.shape ≡ One → IsHeld image at field (number_part kind)
+    → (at + field.offset + field.size ≤ length image.bytes) × IsTrue (is_size_of kind field.size)
 single_there image at field kind is held =
     let whole : extent image.pointer field ≡ field.size = ap (λ (shape : Shape). shape_extent image.pointer shape field.size) is in
     (omega (arith, held.within, whole), held.laid)
@@ -118,42 +144,52 @@ single_shape (Fixed n) same = cc
 single_shape (Counted c) same = cc
 
 -- a single number's partner
-origin_there : (image : Image) (from : Branches) (at : ℕ) (field : Field) (kind : Kind) (found : Option (Field × Part)) → field.shape ≡ One → IsNamed image from at found
-    → clash_partners found field (number_part kind) (λ sender_part. clash_parts sender_part (number_part kind)) ≡ None → IsOriginThere image at (number_origin (known_of found) field.fallback)
+origin_there : (image : Image) (from : Branches) (at : ℕ) (field : Field) (kind : Kind) (found : Option (Field × Part)) → field.shape ≡ One
+    → IsNamed image from at found
+    → clash_partners found field (number_part kind) (λ sender_part. clash_parts sender_part (number_part kind)) ≡ None
+    → IsOriginThere image at (number_origin (known_of found) field.fallback)
 origin_there image from at field kind None is held alike = tt
 origin_there image from at field kind (Some (sender, number_part kind')) is held alike =
     let Alike : Shape → Type 0 = λ s. IsAlike sender.shape (number_part kind') s (number_part kind) in
-    let same : IsAlike sender.shape (number_part kind') One (number_part kind) = subst Alike is (alike_with sender (number_part kind') field (number_part kind) alike) in
+    let same : IsAlike sender.shape (number_part kind') One (number_part kind) = subst Alike is
+    (alike_with sender (number_part kind') field (number_part kind) alike) in
     single_there image at sender kind' (single_shape sender.shape (same.shapes)) held.held
 origin_there image from at field kind (Some (sender, text_part)) is held alike = tt
 origin_there image from at field kind (Some (sender, tree_part nested)) is held alike = tt
 
 -- the number that a receiver's field gets
-field_origin_there : (image : Image) (from : Branches) (at : ℕ) (field : Field) (shape : Shape) (part : Part) → field.shape ≡ shape → IsInside image from at → AreAlike from field part
+field_origin_there : (image : Image) (from : Branches) (at : ℕ) (field : Field) (shape : Shape) (part : Part) → field.shape ≡ shape
+    → IsInside image from at → AreAlike from field part
     → IsOriginThere image at (single_origin (known_branches from) field shape (content_of part))
 field_origin_there image from at field One (number_part kind) is inside alike =
     let There : Option (Field × Content) → Type 0 = λ known. IsOriginThere image at (number_origin known field.fallback) in
-    subst There (sym (known_named-branches field.name from)) (origin_there image from at field kind (branch_named field.name from) is (partner_held image from at field.name inside) alike)
+    subst There (sym (known_named-branches field.name from)) (origin_there image from at field kind (branch_named field.name from) is
+    (partner_held image from at field.name inside) alike)
 field_origin_there image from at field One text_part is inside alike = tt
 field_origin_there image from at field One (tree_part nested) is inside alike = tt
 field_origin_there image from at field (Fixed n) part is inside alike = tt
 field_origin_there image from at field (Counted c) part is inside alike = tt
 
 -- the number of elements that a receiver's counted array gets
-wanted_there : (image : Image) (from : Branches) (at : ℕ) (found : Option (Field × Part)) → IsInside image from at → ((field : Field) (part : Part) → found ≡ Some (field, part) → AreAlike from field part)
+wanted_there : (image : Image) (from : Branches) (at : ℕ) (found : Option (Field × Part)) → IsInside image from at
+    → ((field : Field) (part : Part) → found ≡ Some (field, part) → AreAlike from field part)
     → IsOriginThere image at (wanted_origin (known_branches from) (known_of found))
 wanted_there image from at None inside alike = tt
-wanted_there image from at (Some (field, part)) inside alike = field_origin_there image from at field field.shape part refl inside (alike field part refl)
+wanted_there image from at (Some (field, part)) inside alike = field_origin_there image from at field field.shape part refl inside
+    (alike field part refl)
 
 -- the number of elements of a sender's array
-own_count_there : (image : Image) (at : ℕ) (found : Option (Field × Part)) → ((field : Field) (part : Part) → found ≡ Some (field, part) → (field.shape ≡ One) × IsHeld image at field part)
+own_count_there : (image : Image) (at : ℕ) (found : Option (Field × Part))
+    → ((field : Field) (part : Part) → found ≡ Some (field, part) → (field.shape ≡ One) × IsHeld image at field part)
     → IsOriginThere image at (number_origin (known_of found) (pos 0))
 own_count_there image at None held = tt
-own_count_there image at (Some (field, number_part kind)) held = let h = held field (number_part kind) refl in single_there image at field kind h.0 h.1
+own_count_there image at (Some (field, number_part kind)) held = let h = held field (number_part kind) refl in single_there image at field
+    kind h.0 h.1
 own_count_there image at (Some (field, text_part)) held = tt
 own_count_there image at (Some (field, tree_part nested)) held = tt
 
-field_of_branch : (branches : Branches) (k : ℕ) (field : Field) (part : Part) → branch_at branches k ≡ Some (field, part) → slice_get (fields_of branches) k ≡ Some field
+field_of_branch : (branches : Branches) (k : ℕ) (field : Field) (part : Part) → branch_at branches k ≡ Some (field, part)
+    → slice_get (fields_of branches) k ≡ Some field
 field_of_branch no_fields k field part found = cc
 field_of_branch (branch other part' rest) zero field part found =
     let same : (other, part') ≡ (field, part) = cc in ap (λ (b : Field × Part). Some b.0) same
@@ -161,19 +197,26 @@ field_of_branch (branch other part' rest) (suc k) field part found = field_of_br
 
 -- ---- texts
 
-is_ended : (place : List PlaceStep) (q : ℕ) (found : Option (List ℕ)) (value : Datum) (end : ℕ) → ended_text place q found ≡ read value end → IsSome found
+is_ended : (place : List PlaceStep) (q : ℕ) (found : Option (List ℕ)) (value : Datum) (end : ℕ) → ended_text place q found ≡ read value end
+    → IsSome found
 is_ended place q None value end is = cc
 is_ended place q (Some bytes) value end is = search rules
 
-text_at : (image : Image) (place : List PlaceStep) (mark q : ℕ) (value : Datum) (end : ℕ) → view_string image place mark q ≡ read value end → IsTextAt image q
+text_at : (image : Image) (place : List PlaceStep) (mark q : ℕ) (value : Datum) (end : ℕ) → view_string image place mark q ≡ read value end
+    → IsTextAt image q
 text_at image place mark zero value end is = tt
 text_at image place mark (suc p) value end is =
     let found = until_zero (drop (suc p) image.bytes) in
-    let ok = passed (nat_lt (suc p) mark || not (nat_lt (suc p) (length image.bytes))) (BlockPlace place) (λ _. ended_text place (suc p) found) value end is in
+    let ok = passed (nat_lt (suc p) mark || not (nat_lt (suc p) (length image.bytes))) (BlockPlace place)
+    (λ _. ended_text place (suc p) found) value end is in
     (grind (arith, nat_tests, ok.0), is_ended place (suc p) found value end ok.1)
 
-text_by_there : (image : Image) (size s : ℕ) (value : Datum) → PartSent image text_part size s value → s + size ≤ length image.bytes → size ≡ image.pointer → IsTextBy image s
-text_by_there image size s value sent fits laid = (omega (arith, fits, laid), text_at image sent.place sent.mark (pointer_at image s) value sent.end sent.walked)
+text_by_there : (image : Image) (size s : ℕ) (value : Datum) → PartSent image text_part size s value → s + size ≤ length image.bytes
+    → size ≡ image.pointer → IsTextBy image s
+text_by_there image size s value sent fits laid = (
+  omega (arith, fits, laid),
+  text_at image sent.place sent.mark (pointer_at image s) value sent.end sent.walked,
+)
 
 -- ---- elements
 
@@ -182,17 +225,22 @@ abbrev InsideReady : Image → Part → Type 0
 InsideReady image (number_part kind) = ⊤
 InsideReady image text_part = ⊤
 InsideReady image (tree_part nested) =
-    (from : Branches) (at : ℕ) (entries : Entries) → RecordSent image from at entries → IsInside image from at → clash_branches from (branches_in nested) ≡ None → IsReady image (compiled_tree from nested) at
+    (from : Branches) (at : ℕ) (entries : Entries) → RecordSent image from at entries → IsInside image from at
+    → clash_branches from (branches_in nested) ≡ None → IsReady image (compiled_tree from nested) at
 
-part_there : (image : Image) (sender : Field) (part part' : Part) (size s : ℕ) (value : Datum) → PartSent image part sender.size s value → s + sender.size ≤ length image.bytes
+part_there : (image : Image) (sender : Field) (part part' : Part) (size s : ℕ) (value : Datum) → PartSent image part sender.size s value
+    → s + sender.size ≤ length image.bytes
     → IsLaidPart image.pointer sender.size part → same_part part part' ≡ true → clash_parts part part' ≡ None → InsideReady image part'
-    → IsPartThere image (part_for size (content_of part') (Some (sender, content_of part))) (λ s'. IsReady image (compiled_part (inside_partner (Some (sender, part))) part') s') s
+    → IsPartThere image (part_for size (content_of part') (Some (sender, content_of part)))
+    (λ s'. IsReady image (compiled_part (inside_partner (Some (sender, part))) part') s') s
 part_there image sender (number_part kind) (number_part kind') size s value sent fits laid same alike inside = (fits, laid)
-part_there image sender text_part text_part size s value sent fits laid same alike inside = text_by_there image sender.size s value sent fits laid
+part_there image sender text_part text_part size s value sent fits laid same alike inside = text_by_there image sender.size s value sent
+    fits laid
 part_there image sender (tree_part (tree long from)) (tree_part nested) size s value sent fits laid same alike inside =
     let given = record_sent image long from sender.size s value sent in
     let laid' : IsLaidTree image.pointer (tree long from) = laid.1 in
-    inside from s given.entries given.sent (inside_laid image long s from laid' (omega (arith, fits, laid.0))) (sym (clash_of_trees (tree long from) nested) ∙ alike)
+    inside from s given.entries given.sent (inside_laid image long s from laid' (omega (arith, fits, laid.0)))
+    (sym (clash_of_trees (tree long from) nested) ∙ alike)
 part_there image sender (number_part kind) text_part size s value sent fits laid same alike inside = cc
 part_there image sender (number_part kind) (tree_part nested) size s value sent fits laid same alike inside = cc
 part_there image sender text_part (number_part kind) size s value sent fits laid same alike inside = cc
@@ -205,7 +253,8 @@ record NthSent (image : Image) (part : Part) (size s : ℕ) : Type 0 where
   value : Datum
   sent : PartSent image part size s value
 
-nth_sent : (image : Image) (part : Part) (size : ℕ) (place : ℕ → ℕ) (k i : ℕ) (elements : Elements) → EachSent image part size place k elements → i < count_of elements → NthSent image part size (place (k + i))
+nth_sent : (image : Image) (part : Part) (size : ℕ) (place : ℕ → ℕ) (k i : ℕ) (elements : Elements)
+    → EachSent image part size place k elements → i < count_of elements → NthSent image part size (place (k + i))
 nth_sent image part size place k i empty_list sent below = absurd (omega (arith, below))
 nth_sent image part size place k zero (element value rest) sent below =
     let P : ℕ → Type 0 = λ n. NthSent image part size (place n) in
@@ -221,11 +270,13 @@ element_end start size n k last below fits =
     omega (arith, fits, more)
 
 counted_end : (image : Image) (part : Part) (size : ℕ) (place : List PlaceStep) (z : ℤ) (q mark : ℕ) (value : Datum) (end k : ℕ)
-    → view_counted image place z q size (λ offset i after. view_part image part size offset (place ++ Nth i ∷ []) after) mark ≡ read value end → k < as_count z → q + k * size + size ≤ length image.bytes
+    → view_counted image place z q size (λ offset i after. view_part image part size offset (place ++ Nth i ∷ []) after) mark
+    ≡ read value end → k < as_count z → q + k * size + size ≤ length image.bytes
 counted_end image part size place (negsuc n) q mark value end k walked below = cc
 counted_end image part size place (pos zero) q mark value end k walked below = absurd (omega (arith, below))
 counted_end image part size place (pos (suc n)) q mark value end k walked below =
-    let inside : Walked Datum = as_list (view_elements (λ i after. view_part image part size (q + i * size) (place ++ Nth i ∷ []) after) (suc n) 0 (q + suc n * size)) in
+    let inside : Walked Datum = as_list (view_elements (λ i after. view_part image part size (q + i * size) (place ++ Nth i ∷ []) after)
+    (suc n) 0 (q + suc n * size)) in
     let test : Bool = nat_lt q mark || nat_lt (length image.bytes) (q + suc n * size) in
     let first = passed (nat_eq q 0) (NullList place) (λ _. unless test (BlockPlace place) (λ _. inside)) value end walked in
     let second = passed test (BlockPlace place) (λ _. inside) value end first.1 in
@@ -242,13 +293,19 @@ abbrev IsArrayHeld : Image → ℕ → ℕ → Option Run → Type 0
 IsArrayHeld image at size None = ⊤
 IsArrayHeld image at size (Some run) = ArrayHeld image at size run
 
-array_held : (image : Image) (from : Branches) (at : ℕ) (number : ℕ) (field : Field) (shape : Shape) (part : Part) (value : Datum) → slice_get (fields_of from) number ≡ Some field → field.shape ≡ shape
-    → IsInside image from at → IsHeld image at field part → FieldSent image from at field shape part value → IsArrayHeld image at field.size (run_by (known_branches from) field shape)
+array_held : (image : Image) (from : Branches) (at : ℕ) (number : ℕ) (field : Field) (shape : Shape) (part : Part) (value : Datum)
+    → slice_get (fields_of from) number ≡ Some field → field.shape ≡ shape
+    → IsInside image from at → IsHeld image at field part → FieldSent image from at field shape part value
+    → IsArrayHeld image at field.size (run_by (known_branches from) field shape)
 array_held image from at number field One part value there is inside held sent = tt
 array_held image from at number field (Fixed n) part value there is inside held sent =
     let whole : extent image.pointer field ≡ n * field.size = ap (λ (shape : Shape). shape_extent image.pointer shape field.size) is in
     let fits : at + field.offset + n * field.size ≤ length image.bytes = omega (arith, held.within, whole) in
-    record { counted = tt; begins = omega (arith, held.within); ends = λ k below. element_end (at + field.offset) field.size n k (length image.bytes) below fits }
+    record {
+      counted = tt;
+      begins = omega (arith, held.within);
+      ends = λ k below. element_end (at + field.offset) field.size n k (length image.bytes) below fits;
+    }
 array_held image from at number field (Counted c) part value there is inside held sent =
     let whole : extent image.pointer field ≡ image.pointer = ap (λ (shape : Shape). shape_extent image.pointer shape field.size) is in
     let count_is = origin_of_own_count image at from c in
@@ -265,12 +322,15 @@ array_held image from at number field (Counted c) part value there is inside hel
       counted = subst There (sym (slice_get-known from c)) counter;
       begins = omega (arith, held.within, whole);
       ends = λ k below.
-          counted_end image part field.size sent.place (field_number image at (branch_at from c)) (pointer_at image (at + field.offset)) sent.mark value sent.end k sent.walked (rw count_is at below);
+          counted_end image part field.size sent.place (field_number image at (branch_at from c)) (pointer_at image (at + field.offset))
+          sent.mark value sent.end k sent.walked (rw count_is at below);
     }
 
-run_there : (image : Image) (at : ℕ) (sender : Field) (part part' : Part) (size : ℕ) (run : Option Run) (elements : Elements) → ArraySent image at part sender.size run elements → IsArrayHeld image at sender.size run
+run_there : (image : Image) (at : ℕ) (sender : Field) (part part' : Part) (size : ℕ) (run : Option Run) (elements : Elements)
+    → ArraySent image at part sender.size run elements → IsArrayHeld image at sender.size run
     → IsLaidPart image.pointer sender.size part → same_part part part' ≡ true → clash_parts part part' ≡ None → InsideReady image part'
-    → AreElementsThere image at (part_for size (content_of part') (Some (sender, content_of part))) (λ s. IsReady image (compiled_part (inside_partner (Some (sender, part))) part') s) run
+    → AreElementsThere image at (part_for size (content_of part') (Some (sender, content_of part)))
+    (λ s. IsReady image (compiled_part (inside_partner (Some (sender, part))) part') s) run
 run_there image at sender part part' size None elements sent held laid same alike inside = absurd sent
 run_there image at sender part part' size (Some run) elements sent held laid same alike inside =
     record {
@@ -278,31 +338,40 @@ run_there image at sender part part' size (Some run) elements sent held laid sam
       begins = held.begins;
       within = λ k below. (let end = held.ends k below in omega (arith, end));
       each = λ k below.
-          (let nth = nth_sent image part sender.size (λ i. element_place image at run i) 0 k elements sent.1 (omega (arith, below, sent.0)) in
+          (let nth = nth_sent image part sender.size (λ i. element_place image at run i) 0 k elements sent.1 (omega (arith, below, sent.0))
+          in
           let P : ℕ → Type 0 = λ n. PartSent image part sender.size (element_place image at run n) nth.value in
           let here : 0 + k ≡ k = omega arith in
-          part_there image sender part part' size (element_place image at run k) nth.value (subst P here nth.sent) (held.ends k below) laid same alike inside);
+          part_there image sender part part' size (element_place image at run k) nth.value (subst P here nth.sent) (held.ends k below) laid
+          same alike inside);
     }
 
 -- an element without a partner
-default_there : (image : Image) (size : ℕ) (part : Part) → InsideReady image part → IsDefaultThere (part_for size (content_of part) None) (λ s. IsReady image (compiled_part no_fields part) s)
+default_there : (image : Image) (size : ℕ) (part : Part) → InsideReady image part
+    → IsDefaultThere (part_for size (content_of part) None) (λ s. IsReady image (compiled_part no_fields part) s)
 default_there image size (number_part kind) ready = tt
 default_there image size text_part ready = tt
 default_there image size (tree_part nested) ready =
-    ready no_fields 0 empty_record (nothing_sent image 0) (nothing_inside image 0 (omega arith)) (no_clash_with_nothing (branches_in nested))
+    ready no_fields 0 empty_record (nothing_sent image 0) (nothing_inside image 0 (omega arith))
+    (no_clash_with_nothing (branches_in nested))
 
-elements_there : (image : Image) (from : Branches) (at : ℕ) (field : Field) (shape : Shape) (part : Part) (found : Option (Field × Part)) (value : Option Datum) → field.shape ≡ shape → is_array shape ≡ true
-    → IsPartner image from at found value → clash_partners found field part (λ sender_part. clash_parts sender_part part) ≡ None → IsInside image from at → IsNamed image from at found → InsideReady image part
-    → AreElementsThere image at (part_for field.size (content_of part) (known_of found)) (λ s. IsReady image (compiled_part (inside_partner found) part) s) (run_for (known_branches from) (known_of found))
+elements_there : (image : Image) (from : Branches) (at : ℕ) (field : Field) (shape : Shape) (part : Part) (found : Option (Field × Part))
+    (value : Option Datum) → field.shape ≡ shape → is_array shape ≡ true
+    → IsPartner image from at found value → clash_partners found field part (λ sender_part. clash_parts sender_part part) ≡ None
+    → IsInside image from at → IsNamed image from at found → InsideReady image part
+    → AreElementsThere image at (part_for field.size (content_of part) (known_of found))
+    (λ s. IsReady image (compiled_part (inside_partner found) part) s) (run_for (known_branches from) (known_of found))
 elements_there image from at field shape part None None is arrayed given alike inside held ready = default_there image field.size part ready
 elements_there image from at field shape part None (Some value) is arrayed given alike inside held ready = absurd given
 elements_there image from at field shape part (Some (sender, part')) None is arrayed given alike inside held ready = absurd given
 elements_there image from at field shape part (Some (sender, part')) (Some value) is arrayed given alike inside held ready =
     let classes = alike_with sender part' field part alike in
-    let array' : is_array sender.shape ≡ true = both_arrays (is_array sender.shape) (is_array field.shape) classes.shapes (ap is_array is ∙ arrayed) in
+    let array' : is_array sender.shape ≡ true = both_arrays (is_array sender.shape) (is_array field.shape) classes.shapes
+    (ap is_array is ∙ arrayed) in
     let sent = array_sent image from at sender sender.shape part' value array' given in
     run_there image at sender part' part field.size (run_by (known_branches from) sender sender.shape) sent.elements sent.sent
-    (array_held image from at held.number sender sender.shape part' value held.there refl inside held.held given) held.held.laid classes.parts classes.inside ready
+    (array_held image from at held.number sender sender.shape part' value held.there refl inside held.held given) held.held.laid
+    classes.parts classes.inside ready
   where
     both_arrays : (a b : Bool) → same_shape a b ≡ true → b ≡ true → a ≡ true
     both_arrays true b same is = refl
@@ -311,8 +380,10 @@ elements_there image from at field shape part (Some (sender, part')) (Some value
 
 -- ---- fields
 
-text_there_by : (image : Image) (from : Branches) (at : ℕ) (field : Field) (found : Option (Field × Part)) (value : Option Datum) → field.shape ≡ One → IsPartner image from at found value
-    → clash_partners found field text_part (λ sender_part. clash_parts sender_part text_part) ≡ None → IsNamed image from at found → IsTextThere image at (offset_of (known_of found))
+text_there_by : (image : Image) (from : Branches) (at : ℕ) (field : Field) (found : Option (Field × Part)) (value : Option Datum)
+    → field.shape ≡ One → IsPartner image from at found value
+    → clash_partners found field text_part (λ sender_part. clash_parts sender_part text_part) ≡ None → IsNamed image from at found
+    → IsTextThere image at (offset_of (known_of found))
 text_there_by image from at field None None is given alike held = tt
 text_there_by image from at field None (Some value) is given alike held = absurd given
 text_there_by image from at field (Some (sender, part)) None is given alike held = absurd given
@@ -320,20 +391,24 @@ text_there_by image from at field (Some (sender, part)) (Some value) is given al
     let Alike : Shape → Type 0 = λ s. IsAlike sender.shape part s text_part in
     text_of sender sender.shape part value refl given (subst Alike is (alike_with sender part field text_part alike)) held.held
   where
-    text_of : (sender : Field) (shape : Shape) (part : Part) (value : Datum) → sender.shape ≡ shape → FieldSent image from at sender shape part value → IsAlike shape part One text_part → IsHeld image at sender part
+    text_of : (sender : Field) (shape : Shape) (part : Part) (value : Datum) → sender.shape ≡ shape
+        → FieldSent image from at sender shape part value → IsAlike shape part One text_part → IsHeld image at sender part
         → IsTextBy image (at + sender.offset)
     text_of sender One text_part value is sent alike held =
         let whole : extent image.pointer sender ≡ sender.size = ap (λ (shape : Shape). shape_extent image.pointer shape sender.size) is in
-        text_by_there image sender.size (at + sender.offset) value (single_sent image from at sender text_part value sent) (omega (arith, held.within, whole)) held.laid
+        text_by_there image sender.size (at + sender.offset) value (single_sent image from at sender text_part value sent)
+        (omega (arith, held.within, whole)) held.laid
     text_of sender One (number_part kind) value is sent alike held = let no = alike.parts in cc
     text_of sender One (tree_part nested) value is sent alike held = let no = alike.parts in cc
     text_of sender (Fixed n) part value is sent alike held = let no = alike.shapes in cc
     text_of sender (Counted c) part value is sent alike held = let no = alike.shapes in cc
 
 -- where the partner of a single record stands
-record_inside : (image : Image) (from : Branches) (at : ℕ) (field : Field) (nested : Tree) (found : Option (Field × Part)) → field.shape ≡ One → IsInside image from at → IsNamed image from at found
+record_inside : (image : Image) (from : Branches) (at : ℕ) (field : Field) (nested : Tree) (found : Option (Field × Part))
+    → field.shape ≡ One → IsInside image from at → IsNamed image from at found
     → clash_partners found field (tree_part nested) (λ sender_part. clash_parts sender_part (tree_part nested)) ≡ None
-    → (at + or_zero (offset_of (known_of found)) ≤ length image.bytes) × IsInside image (inside_partner found) (at + or_zero (offset_of (known_of found)))
+    → (at + or_zero (offset_of (known_of found)) ≤ length image.bytes)
+    × IsInside image (inside_partner found) (at + or_zero (offset_of (known_of found)))
 record_inside image from at field nested None is inside held alike =
     let fits : at + 0 ≤ length image.bytes = (let whole = inside.fits in omega (arith, whole)) in
     (fits, nothing_inside image (at + 0) fits)
@@ -341,7 +416,8 @@ record_inside image from at field nested (Some (sender, part)) is inside held al
     let Alike : Shape → Type 0 = λ s. IsAlike sender.shape part s (tree_part nested) in
     inside_of sender sender.shape part refl (subst Alike is (alike_with sender part field (tree_part nested) alike)) held.held
   where
-    inside_of : (sender : Field) (shape : Shape) (part : Part) → sender.shape ≡ shape → IsAlike shape part One (tree_part nested) → IsHeld image at sender part
+    inside_of : (sender : Field) (shape : Shape) (part : Part) → sender.shape ≡ shape → IsAlike shape part One (tree_part nested)
+        → IsHeld image at sender part
         → (at + sender.offset ≤ length image.bytes) × IsInside image (inside_partner (Some (sender, part))) (at + sender.offset)
     inside_of sender One (tree_part (tree long inner)) is alike held =
         let whole : extent image.pointer sender ≡ sender.size = ap (λ (shape : Shape). shape_extent image.pointer shape sender.size) is in
@@ -353,11 +429,16 @@ record_inside image from at field nested (Some (sender, part)) is inside held al
     inside_of sender (Fixed n) part is alike held = let no = alike.shapes in cc
     inside_of sender (Counted c) part is alike held = let no = alike.shapes in cc
 
-field_ready : (image : Image) (from all : Branches) (at : ℕ) (field : Field) (shape : Shape) (part : Part) (found : Option (Field × Part)) (value : Option Datum) → field.shape ≡ shape → IsPartner image from at found value
-    → clash_partners found field part (λ sender_part. clash_parts sender_part part) ≡ None → clash_branches from all ≡ None → IsInside image from at → IsNamed image from at found → InsideReady image part
-    → IsOpThere image at (op_for (known_branches from) (known_branches all) field shape (content_of part) (known_of found)) (λ s. IsReady image (compiled_part (inside_partner found) part) s)
-field_ready image from all at field One (number_part kind) found value is given alike all_alike inside held ready = origin_there image from at field kind found is held alike
-field_ready image from all at field One text_part found value is given alike all_alike inside held ready = text_there_by image from at field found value is given alike held
+field_ready : (image : Image) (from all : Branches) (at : ℕ) (field : Field) (shape : Shape) (part : Part) (found : Option (Field × Part))
+    (value : Option Datum) → field.shape ≡ shape → IsPartner image from at found value
+    → clash_partners found field part (λ sender_part. clash_parts sender_part part) ≡ None → clash_branches from all ≡ None
+    → IsInside image from at → IsNamed image from at found → InsideReady image part
+    → IsOpThere image at (op_for (known_branches from) (known_branches all) field shape (content_of part) (known_of found))
+    (λ s. IsReady image (compiled_part (inside_partner found) part) s)
+field_ready image from all at field One (number_part kind) found value is given alike all_alike inside held ready = origin_there image from
+    at field kind found is held alike
+field_ready image from all at field One text_part found value is given alike all_alike inside held ready = text_there_by image from at field
+    found value is given alike held
 field_ready image from all at field One (tree_part nested) found value is given alike all_alike inside held ready =
     let there = record_given image from at field nested found value is given alike in
     let place = record_inside image from at field nested found is inside held alike in
@@ -366,27 +447,34 @@ field_ready image from all at field (Fixed n) part found value is given alike al
     elements_there image from at field (Fixed n) part found value is refl given alike inside held ready
 field_ready image from all at field (Counted c) part found value is given alike all_alike inside held ready =
     let There : Option (Field × Content) → Type 0 = λ known. IsOriginThere image at (wanted_origin (known_branches from) known) in (
-      subst There (sym (slice_get-known all c)) (wanted_there image from at (branch_at all c) inside (λ other other_part there. alike_at from all c other other_part all_alike there)),
+      subst There (sym (slice_get-known all c))
+          (wanted_there image from at (branch_at all c) inside (λ other other_part there. alike_at from all c other other_part all_alike
+          there)),
       elements_there image from at field (Counted c) part found value is refl given alike inside held ready,
     )
 
 -- ---- records
 
 mutual
-  pub ready_tree : (image : Image) (from : Branches) (nested : Tree) (at : ℕ) (entries : Entries) → RecordSent image from at entries → IsInside image from at → clash_branches from (branches_in nested) ≡ None
+  pub ready_tree : (image : Image) (from : Branches) (nested : Tree) (at : ℕ) (entries : Entries) → RecordSent image from at entries
+      → IsInside image from at → clash_branches from (branches_in nested) ≡ None
       → IsReady image (compiled_tree from nested) at
-  ready_tree image from (tree long branches) at entries sent inside alike = ready_branches image from branches branches 0 at entries sent inside alike alike
+  ready_tree image from (tree long branches) at entries sent inside alike = ready_branches image from branches branches 0 at entries sent
+      inside alike alike
 
-  ready_branches : (image : Image) (from all branches : Branches) (k at : ℕ) (entries : Entries) → RecordSent image from at entries → IsInside image from at → clash_branches from all ≡ None → clash_branches from branches ≡ None
+  ready_branches : (image : Image) (from all branches : Branches) (k at : ℕ) (entries : Entries) → RecordSent image from at entries
+      → IsInside image from at → clash_branches from all ≡ None → clash_branches from branches ≡ None
       → IsReady image (compiled from all branches k) at
   ready_branches image from all no_fields k at entries sent inside all_alike alike = tt
   ready_branches image from all (branch field part rest) k at entries sent inside all_alike alike =
       let parts = alike_branches from field part rest alike in
       let found = branch_named field.name from in
       let There : Option (Field × Content) → Type 0 = λ partner.
-      IsOpThere image at (op_for (known_branches from) (known_branches all) field field.shape (content_of part) partner) (λ s. IsReady image (compiled_part (inside_partner found) part) s) in (
+      IsOpThere image at (op_for (known_branches from) (known_branches all) field field.shape (content_of part) partner)
+      (λ s. IsReady image (compiled_part (inside_partner found) part) s) in (
         subst There (sym (known_named-branches field.name from))
-            (field_ready image from all at field field.shape part found (named field.name entries) refl (partner image from at entries field.name sent) parts.0 all_alike inside (partner_held image from at field.name inside)
+            (field_ready image from all at field field.shape part found (named field.name entries) refl
+            (partner image from at entries field.name sent) parts.0 all_alike inside (partner_held image from at field.name inside)
             (ready_inside image part)),
         ready_branches image from all rest (suc k) at entries sent inside all_alike parts.1,
       )

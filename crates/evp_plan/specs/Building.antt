@@ -1,5 +1,6 @@
 -- The steps that are made for two types: one for each field of the receiver's.
-use Rattle.std.specs.Prelude.{◌≡◌, ℕ, zero, suc, ◌+◌, ◌*◌, ◌≤◌, ◌<◌, List, [], ◌∷◌, length, if◌then◌else◌, slice_get, Option, Some, None, ⊤}
+use Rattle.std.specs.Prelude.{◌≡◌, ℕ, zero, suc, ◌+◌, ◌*◌, ◌≤◌, ◌<◌, List, [], ◌∷◌, length}
+use Rattle.std.specs.Prelude.{if◌then◌else◌, slice_get, Option, Some, None, ⊤}
 use Rattle.evp_format.specs.Bytes.{bytes_equal}
 use Rattle.evp_format.specs.declared.field.Base.{Base}
 use Rattle.evp_format.specs.declared.field.Base.TheVariants.{Number, Text, Nested}
@@ -8,7 +9,8 @@ use Rattle.evp_format.specs.declared.record_type.RecordType.{RecordType}
 use Rattle.evp_format.specs.Layout.{Layout}
 use Rattle.evp_format.specs.Tree.{Tree, tree, Branches, no_fields, tree_of, trees, branches_of}
 use Rattle.evp_plan.specs.declared.step.Step.{Step}
-use Rattle.evp_plan.specs.Matching.{Content, content_of_base, known_fields, known_named, task_for, compiled_tree}
+use Rattle.evp_plan.specs.Matching.{Content, content_of_base, known_fields, known_named, task_for}
+use Rattle.evp_plan.specs.Matching.{compiled_tree}
 use Rattle.evp_plan.specs.Program.{program_at, IsOrdered}
 
 -- a field, with what it is
@@ -26,7 +28,8 @@ abbrev pub row_of : Option Field → ℕ
 row_of None = 0
 row_of (Some field) = row_of_base field.base
 
--- the number of the steps that make a record of type n from one of that row, where there are so many rows
+-- the number of the steps that make a record of type n from one of that row, where there are so
+-- many rows
 abbrev pub inner_of : ℕ → Base → ℕ → Option ℕ
 inner_of rows (Number kind) row = None
 inner_of rows Text row = None
@@ -35,9 +38,11 @@ inner_of rows (Nested n) row = Some (n * rows + row)
 -- the field of this name
 abbrev pub field_named : List ℕ → List Field → Option Field
 field_named name [] = None
-field_named name (field ∷ fields) = if bytes_equal name field.name then Some field else field_named name fields
+field_named name (field ∷ fields) = if bytes_equal name field.name then Some field
+    else field_named name fields
 
--- the step for field k of a type with the fields `all`, from a sender's record with the fields `from`
+-- the step for field k of a type with the fields `all`, from a sender's record with the fields
+-- `from`
 abbrev pub step_for : ℕ → List Field → List Field → ℕ → Field → Step
 step_for rows from all k field =
     record {
@@ -48,7 +53,8 @@ step_for rows from all k field =
 -- the steps for these fields, from number k on
 abbrev pub steps_for : ℕ → List Field → List Field → ℕ → List Field → List Step
 steps_for rows from all k [] = []
-steps_for rows from all k (field ∷ fields) = step_for rows from all k field ∷ steps_for rows from all (suc k) fields
+steps_for rows from all k (field ∷ fields) = step_for rows from all k field
+    ∷ steps_for rows from all (suc k) fields
 
 abbrev pub branches_in : Tree → Branches
 branches_in (tree length branches) = branches
@@ -65,13 +71,16 @@ NestsBelow n Text = ⊤
 NestsBelow n (Nested m) = m < n
 
 abbrev pub EachNestsBelow : ℕ → List Field → Type 0
-EachNestsBelow n fields = (i : ℕ) (field : Field) → slice_get fields i ≡ Some field → NestsBelow n field.base
+EachNestsBelow n fields = (i : ℕ) (field : Field) → slice_get fields i ≡ Some field
+    → NestsBelow n field.base
 
--- what is known of a row of the sender's: its fields, of which each is of an earlier type or no record
+-- what is known of a row of the sender's: its fields, of which each is of an earlier type or no
+-- record
 pub record IsRow (from : Layout) (row : ℕ) (sender : List Field) : Type 0 where
   pub low : row < suc (length from.types)
   pub fields : row_branches from row ≡ branches_of (trees from.types) sender
-  pub each : (i : ℕ) (field : Field) → slice_get sender i ≡ Some field → row_of_base field.base < suc (length from.types)
+  pub each : (i : ℕ) (field : Field) → slice_get sender i ≡ Some field
+      → row_of_base field.base < suc (length from.types)
 
 -- what is known of a type of the receiver's
 pub record IsTypeOf (to : Layout) (n : ℕ) (all : List Field) : Type 0 where
@@ -79,8 +88,11 @@ pub record IsTypeOf (to : Layout) (n : ℕ) (all : List Field) : Type 0 where
   pub tree_is : tree_of to n ≡ tree long (branches_of (trees to.types) all)
   pub nests : EachNestsBelow n all
 
--- steps for each type of the receiver, from each row of the sender's, the last of them for the last of both
+-- steps for each type of the receiver, from each row of the sender's, the last of them for the last
+-- of both
 pub record IsTable (from to : Layout) (table : List (List Step)) : Type 0 where
   pub ordered : IsOrdered table
-  pub each : (row n : ℕ) → row < suc (length from.types) → n * suc (length from.types) + row < length table
-      → program_at table (n * suc (length from.types) + row) ≡ compiled_tree (row_branches from row) (tree_of to n)
+  pub each : (row n : ℕ) → row < suc (length from.types)
+      → n * suc (length from.types) + row < length table
+      → program_at table (n * suc (length from.types) + row)
+      ≡ compiled_tree (row_branches from row) (tree_of to n)

@@ -1,4 +1,6 @@
 pub mod Building
+pub mod Cells
+pub mod Clean
 pub mod Counts
 pub mod Faults
 pub mod Matching

@@ -1,5 +1,6 @@
 -- What a plan is, and what it means that it stands for a pair of formats.
-use Rattle.std.specs.Prelude.{◌≡◌, ◌↔◌, ℕ, ◌-◌, Bool, IsTrue, nat_lt, List, [], length, replicate, None, Ok}
+use Rattle.std.specs.Prelude.{◌≡◌, ◌↔◌, ℕ, ◌-◌, Bool, IsTrue, nat_lt, List, [], length, replicate}
+use Rattle.std.specs.Prelude.{None, Ok}
 use Rattle.evp_base.specs.declared.order.Order.{Order}
 use Rattle.evp_base.specs.Numbers.{is_width}
 use Rattle.evp_format.specs.Clashing.{clash}
@@ -17,7 +18,8 @@ use Rattle.evp_plan.specs.Program.{Program, program_at}
 use Rattle.evp_plan.specs.Ready.{IsReady}
 use Rattle.evp_plan.specs.Sound.{IsSound}
 
--- how the receiver's machine stores numbers and pointers, the bytes of its record's fixed part, lists of steps of which the last makes the record,
+-- how the receiver's machine stores numbers and pointers, the bytes of its record's fixed part,
+-- lists of steps of which the last makes the record,
 -- and whether the two formats are equal
 pub record Planned : Type 0 where
   pub order : Order
@@ -28,7 +30,13 @@ pub record Planned : Type 0 where
 
 -- a plan for a receiver of this format
 abbrev pub planned_of : Layout → List (List Step) → Bool → Planned
-planned_of to table alike = record { order = to.order; pointer = to.pointer; fixed = length_of (root_of to); table = table; alike = alike }
+planned_of to table alike = record {
+  order = to.order;
+  pointer = to.pointer;
+  fixed = length_of (root_of to);
+  table = table;
+  alike = alike;
+}
 
 -- what makes the record
 abbrev pub whole_program : Planned → Program
@@ -39,7 +47,8 @@ machine_in plan = record { order = plan.order; pointer = plan.pointer }
 
 -- what the plan finds by a sender's record: the packed size, or the first fault
 abbrev pub measured_whole : Planned → Image → ℕ → Made (Unit {0})
-measured_whole plan image limit = unless_large (nat_lt limit plan.fixed) [] (λ _. measured limit image (whole_program plan) [] 0 plan.fixed)
+measured_whole plan image limit = unless_large (nat_lt limit plan.fixed) []
+    (λ _. measured limit image (whole_program plan) [] 0 plan.fixed)
 
 -- what it writes
 abbrev pub moved_whole : Planned → Image → Pieces
@@ -49,19 +58,24 @@ moved_whole plan image = moved image (machine_in plan) (whole_program plan) 0 0 
 abbrev pub laid_out : Pieces → List ℕ
 laid_out pieces = put_pieces pieces.all (replicate pieces.size 0)
 
--- the plan is one for the two formats: for each record of the first, what its steps find and write is the conversion into the second, packed
+-- the plan is one for the two formats: for each record of the first, what its steps find and write
+-- is the conversion into the second, packed
 pub record StandsFor (plan : Planned) (from to : Layout) : Type 0 where
   pub laid : IsWellLaid to
   pub no_clash : clash from to ≡ None
   pub alike : IsTrue plan.alike ↔ (from ≡ to)
   pub length : plan.fixed ≡ length_of (root_of to)
   pub pointer_allowed : IsTrue (is_width plan.pointer)
-  pub measures : (bytes : List ℕ) (value : Datum) (limit : ℕ) → view from bytes ≡ Ok value → measured_whole plan (image_of from bytes) limit ≡ sized (convert to value limit)
-  pub sizes : (bytes : List ℕ) (value converted : Datum) (limit size : ℕ) → view from bytes ≡ Ok value → convert to value limit ≡ made converted size
+  pub measures : (bytes : List ℕ) (value : Datum) (limit : ℕ) → view from bytes ≡ Ok value
+      → measured_whole plan (image_of from bytes) limit ≡ sized (convert to value limit)
+  pub sizes : (bytes : List ℕ) (value converted : Datum) (limit size : ℕ)
+      → view from bytes ≡ Ok value → convert to value limit ≡ made converted size
       → (moved_whole plan (image_of from bytes)).size ≡ size
-  pub writes : (bytes : List ℕ) (value converted : Datum) (limit size : ℕ) → view from bytes ≡ Ok value → convert to value limit ≡ made converted size
+  pub writes : (bytes : List ℕ) (value converted : Datum) (limit size : ℕ)
+      → view from bytes ≡ Ok value → convert to value limit ≡ made converted size
       → laid_out (moved_whole plan (image_of from bytes)) ≡ pack to converted
-  pub reads : (bytes : List ℕ) (value : Datum) → view from bytes ≡ Ok value → IsReady (image_of from bytes) (whole_program plan) 0
+  pub reads : (bytes : List ℕ) (value : Datum) → view from bytes ≡ Ok value
+      → IsReady (image_of from bytes) (whole_program plan) 0
   pub sound : IsSound plan.pointer (whole_program plan) 16 plan.fixed
 
 -- the plan is one for records of this format

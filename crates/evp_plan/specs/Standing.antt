@@ -1,5 +1,6 @@
 -- What stands in a sender's record: its numbers, texts and arrays, by their offsets.
-use Rattle.std.specs.Prelude.{ℕ, zero, suc, ◌+◌, ◌*◌, ℤ, pos, Bool, true, false, List, drop, Option, Some, None}
+use Rattle.std.specs.Prelude.{ℕ, zero, suc, ◌+◌, ◌*◌, ℤ, pos, Bool, true, false, List, drop, Option}
+use Rattle.std.specs.Prelude.{Some, None}
 use Rattle.evp_base.specs.Numbers.{number}
 use Rattle.evp_format.specs.Bytes.{bytes_at}
 use Rattle.evp_format.specs.Datum.{Datum, null, text}
@@ -11,7 +12,8 @@ use Rattle.evp_plan.specs.declared.step.Run.{Run}
 
 -- the number of a record that stands at `at`, or the stated one
 abbrev pub origin_number : Image → ℕ → Origin → ℤ
-origin_number image at (Standing source) = number image.order source.kind (bytes_at (at + source.offset) source.size image.bytes)
+origin_number image at (Standing source) = number image.order source.kind
+    (bytes_at (at + source.offset) source.size image.bytes)
 origin_number image at (Stated n) = n
 
 -- the text before the first zero byte

@@ -7,6 +7,7 @@ ghost use Rattle.evp_plan.specs.Counts.{raised};
 ghost use Rattle.evp_plan.specs.Faults.{IsBuildFault};
 ghost use Rattle.evp_plan.specs.Planned.{StandsFor};
 
+use crate::moves::all_moves;
 use crate::table::table_of;
 use crate::{BuildFault, Builds, Plan};
 use evp_base::Memory;
@@ -46,5 +47,6 @@ fn plan_of(alloc: Global, from: &Format, to: &Format) -> Result<Plan, Memory>
     let _sender = from.types();
     let _receiver = to.types();
     let table = table_of(alloc, from, to)?;
-    Ok(Plan::new(to, table, *from == *to))
+    let moves = all_moves(alloc, to.order(), from.order(), table.as_slice())?;
+    Ok(Plan::new(to, table, *from == *to, from.order(), moves))
 }

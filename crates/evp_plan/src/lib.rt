@@ -4,7 +4,12 @@
 mod build_fault;
 mod building;
 mod builds;
+mod cell;
+mod compiling;
+mod gather;
+mod gathering;
 mod matching;
+mod moves;
 mod plan;
 mod step;
 mod table;
@@ -12,6 +17,8 @@ mod table;
 pub use build_fault::BuildFault;
 pub use building::build;
 pub use builds::Builds;
+pub use cell::Cell;
+pub use moves::Moves;
 pub use plan::Plan;
 pub use step::{Elements, Op, Origin, Part, Run, Source, Step, Steps, Task};
 

@@ -1,8 +1,12 @@
 //! The steps for two types, whose fields are matched by name.
 
 ghost use Rattle.std.specs.Prelude.{◌≡◌, ◌+◌, ◌*◌, ◌<◌, ◌≤◌, ◌^◌, pos, length, slice_get, IfOk};
-ghost use Rattle.evp_plan.specs.Building.{known_field, field_named, row_of, inner_of, step_for, steps_for};
-ghost use Rattle.evp_plan.specs.Matching.{content_of_base, known_fields, known_named, number_origin, single_origin, wanted_origin, run_by, part_for, op_for, single_for, elements_for, offset_of, or_zero};
+ghost use Rattle.evp_plan.specs.Building.{known_field, field_named, row_of, inner_of, step_for};
+ghost use Rattle.evp_plan.specs.Building.{steps_for};
+ghost use Rattle.evp_plan.specs.Matching.{content_of_base, known_fields, known_named};
+ghost use Rattle.evp_plan.specs.Matching.{number_origin, single_origin, wanted_origin, run_by};
+ghost use Rattle.evp_plan.specs.Matching.{part_for, op_for, single_for, elements_for, offset_of};
+ghost use Rattle.evp_plan.specs.Matching.{or_zero};
 
 use crate::{Elements, Op, Origin, Part, Run, Source, Step, Steps, Task};
 use evp_base::{Memory, Name};
@@ -58,7 +62,8 @@ fn origin_of(partner: &Option<Field>, field: &Field) -> Origin
 
 // What a receiver's single number field is made from.
 fn single_origin(from: &[Field], field: &Field) -> Origin
-    ensures { result ≡ single_origin (known_fields from.now) field.now field.now.shape (content_of_base field.now.base) }
+    ensures { result ≡ single_origin (known_fields from.now) field.now field.now.shape
+        (content_of_base field.now.base) }
 {
     match (field.shape, field.base) {
         (Shape::One, Base::Number(_)) => { origin_of(&field_named(&field.name, from), field) }
@@ -68,7 +73,8 @@ fn single_origin(from: &[Field], field: &Field) -> Origin
 
 // How many elements a receiver's array gets, by its count field.
 fn wanted_origin(from: &[Field], all: &[Field], count: u16) -> Origin
-    ensures { result ≡ wanted_origin (known_fields from.now) (slice_get (known_fields all.now) count) }
+    ensures { result ≡ wanted_origin (known_fields from.now)
+        (slice_get (known_fields all.now) count) }
 {
     match field_at(all, count) {
         Some(field) => single_origin(from, &field),
@@ -112,7 +118,8 @@ fn offset_of(partner: &Option<Field>) -> Option<u32>
 
 // What an element of the receiver's array is made from.
 fn part_of(field: &Field, partner: &Option<Field>) -> Part
-    ensures { result ≡ part_for field.now.size (content_of_base field.now.base) (known_field partner.now) }
+    ensures { result ≡ part_for field.now.size (content_of_base field.now.base)
+        (known_field partner.now) }
 {
     match field.base {
         Base::Text => Part::Text,
@@ -130,7 +137,8 @@ fn part_of(field: &Field, partner: &Option<Field>) -> Part
 
 // What the elements of the receiver's array are made from.
 fn elements_of(from: &[Field], field: &Field, partner: &Option<Field>) -> Elements
-    ensures { result ≡ elements_for (known_fields from.now) field.now.size (content_of_base field.now.base) (known_field partner.now) }
+    ensures { result ≡ elements_for (known_fields from.now) field.now.size
+        (content_of_base field.now.base) (known_field partner.now) }
 {
     Elements {
         part: part_of(field, partner),
@@ -143,7 +151,8 @@ fn elements_of(from: &[Field], field: &Field, partner: &Option<Field>) -> Elemen
 
 // What a field of the receiver is made from.
 fn op_of(from: &[Field], all: &[Field], field: &Field, partner: &Option<Field>) -> Op
-    ensures { result ≡ op_for (known_fields from.now) (known_fields all.now) field.now field.now.shape (content_of_base field.now.base) (known_field partner.now) }
+    ensures { result ≡ op_for (known_fields from.now) (known_fields all.now) field.now
+        field.now.shape (content_of_base field.now.base) (known_field partner.now) }
 {
     match field.shape {
         Shape::One => single_op(field, partner),
@@ -157,7 +166,8 @@ fn op_of(from: &[Field], all: &[Field], field: &Field, partner: &Option<Field>) 
 
 // What a field of the receiver that is no array is made from.
 fn single_op(field: &Field, partner: &Option<Field>) -> Op
-    ensures { result ≡ single_for field.now (content_of_base field.now.base) (known_field partner.now) }
+    ensures { result ≡ single_for field.now (content_of_base field.now.base)
+        (known_field partner.now) }
 {
     match field.base {
         Base::Number(kind) => Op::Number(kind, origin_of(partner, field)),

@@ -1,9 +1,10 @@
 //! Plans.
 
-ghost use Rattle.std.specs.Prelude.{◌≡◌, ◌<◌, ◌≤◌, length};
+ghost use Rattle.std.specs.Prelude.{◌≡◌, ◌<◌, ◌≤◌, [], length, get_or, IfSome};
+ghost use Rattle.evp_plan.specs.Cells.{IsMovesOf, AreMovesOf};
 ghost use Rattle.evp_plan.specs.Program.{IsOrdered};
 
-use crate::Steps;
+use crate::{Moves, Steps};
 use evp_base::Order;
 use evp_format::Format;
 use std::marker::Model;
@@ -16,27 +17,46 @@ pub struct Plan {
     fixed: u32,
     table: Vec<Steps>,
     alike: bool,
+    // The order of the sender's bytes, and for each list of steps the moves, where gathers make
+    // all.
+    sender: Order,
+    moves: Vec<Option<Moves>>,
 }
 
 impl Model for Plan {
     ghost use Rattle.std.specs.Prelude.{◌≤◌, length};
     ghost use Rattle.evp_plan.specs.Planned.{Planned};
     ghost use Rattle.evp_plan.specs.Program.{IsOrdered};
+    ghost use Rattle.evp_plan.specs.Cells.{AreMovesOf};
 
     ghost Value = { Planned };
 
-    ghost view = { λ p. record { order = p.order; pointer = p.pointer; fixed = p.fixed; table = p.table.items; alike = p.alike } };
+    ghost view = { λ p. record {
+      order = p.order;
+      pointer = p.pointer;
+      fixed = p.fixed;
+      table = p.table.items;
+      alike = p.alike;
+    } };
 
-    ghost invariant = { λ p. IsOrdered p.table.items × (1 ≤ length p.table.items) };
+    ghost invariant = { λ p. IsOrdered p.table.items × ((1 ≤ length p.table.items)
+        × AreMovesOf p.sender p.order p.table.items p.moves.items) };
 }
 
 impl Plan {
     ghost use Rattle.evp_plan.specs.Planned.{planned_of};
 
     // The plan for a receiver of this format.
-    pub(crate) fn new(to: &Format, table: Vec<Steps>, alike: bool) -> Self
+    pub(crate) fn new(
+        to: &Format,
+        table: Vec<Steps>,
+        alike: bool,
+        sender: Order,
+        moves: Vec<Option<Moves>>,
+    ) -> Self
         requires ordered { IsOrdered table.items }
         requires some { 1 ≤ length table.items }
+        requires made { AreMovesOf sender to.now.order table.items moves.items }
         ensures { result ≡ planned_of to.now table.items alike }
     {
         Plan {
@@ -45,6 +65,8 @@ impl Plan {
             fixed: to.root().length,
             table,
             alike,
+            sender,
+            moves,
         }
     }
 
@@ -83,5 +105,21 @@ impl Plan {
         ensures { result ≡ self.now.alike }
     {
         self.alike
+    }
+
+    /// The moves that make the records of the list of that number from a sender of this order,
+    /// where
+    /// gathers make all of them.
+    pub fn moves(&self, number: usize, from: Order) -> Option<&Moves>
+        ensures { IfSome result (λ moves. IsMovesOf from self.now.order
+            (get_or self.now.table number []) moves.now) }
+    {
+        if self.sender != from || number >= self.moves.len() {
+            return None;
+        }
+        match &self.moves[number] {
+            Some(moves) => Some(moves),
+            None => None,
+        }
     }
 }

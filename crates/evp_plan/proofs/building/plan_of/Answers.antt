@@ -5,7 +5,8 @@ use Rattle.evp_plan.proofs.Tables.{whole_compiled, some_lists}
 use Rattle.evp_plan.proofs.building.plan_of.Goals as goal
 
 pub new-requires-clause-some : goal.new-requires-clause-some
-new-requires-clause-some c = some_lists c.args.from.now c.args.to.now c.in_ok-table.table.items c.types-receiver.ensures.laid c.in_ok-table.ensures.whole
+new-requires-clause-some c = some_lists c.args.from.now c.args.to.now c.in_ok-table.table.items c.types-receiver.ensures.laid
+    c.in_ok-table.ensures.whole
 
 pub returns : goal.returns
 returns c =
@@ -13,7 +14,9 @@ returns c =
     let to = c.args.to.now in
     let table = c.in_ok-table.table.items in
     let plan = planned_of to table c.eq.result in
-    let compiled = whole_compiled from to table c.types-sender.ensures.laid c.types-receiver.ensures.laid c.in_ok-table.ensures.table c.in_ok-table.ensures.whole in
+    let compiled = whole_compiled from to table c.types-sender.ensures.laid c.types-receiver.ensures.laid c.in_ok-table.ensures.table
+    c.in_ok-table.ensures.whole in
     let P : Planned → Type 0 = λ p. StandsFor p from to in
     subst P (sym c.new.ensures)
-    (stands plan from to c.types-sender.ensures.laid c.types-receiver.ensures.laid c.requires c.eq.ensures.same (record { machine = refl; fixed = refl; program = compiled }))
+    (stands plan from to c.types-sender.ensures.laid c.types-receiver.ensures.laid c.requires c.eq.ensures.same
+    (record { machine = refl; fixed = refl; program = compiled }))

@@ -9,4 +9,6 @@ returns c =
     let P : List Field → Type 0 = λ fields. IsRow c.args.from.now c.args.row fields in
     let P' : ℕ → Type 0 = λ row. IsRow c.args.from.now row c.record_type.result.now.fields in
     let row : suc (c.args.row - 1) ≡ c.args.row = omega arith in
-    subst P (sym c.as_slice.ensures) (subst P' row (row_laid c.args.from.now (c.args.row - 1) c.record_type.result.now c.record_type.ensures.laid c.record_type.ensures.value))
+    subst P (sym c.as_slice.ensures)
+    (subst P' row (row_laid c.args.from.now (c.args.row - 1) c.record_type.result.now c.record_type.ensures.laid
+    c.record_type.ensures.value))

@@ -1,0 +1,206 @@
+-- What is written by a list that says of each byte what it is made from. The sender's record stands
+-- at `at`.
+use Rattle.std.specs.Prelude.{◌≡◌, ℕ, zero, suc, ◌+◌, ◌-◌, ◌≤◌, Bool, true, false, nat_lt, nat_eq}
+use Rattle.std.specs.Prelude.{if◌then◌else◌, List, [], ◌∷◌, map, max, get_or, replicate, reverse}
+use Rattle.std.specs.Prelude.{slice_get, slice_index, Option, Some}
+use Rattle.std.specs.List.{list_all}
+use Rattle.evp_base.specs.Numbers.{digits}
+use Rattle.evp_base.specs.declared.kind.Kind.{Kind}
+use Rattle.evp_base.specs.declared.kind.Kind.TheVariants.{Int, Unsigned, Char, Boolean, Enumeration}
+use Rattle.evp_base.specs.declared.order.Order.{Order}
+use Rattle.evp_base.specs.declared.order.Order.TheVariants.{Little, Big}
+use Rattle.evp_plan.specs.declared.cell.Cell.{Cell}
+use Rattle.evp_plan.specs.declared.gather.Gather.{Gather}
+use Rattle.evp_plan.specs.declared.step.Op.{Op}
+use Rattle.evp_plan.specs.declared.step.Op.TheVariants.{Number, Text, Nest, Each, Many}
+use Rattle.evp_plan.specs.declared.step.Origin.{Origin}
+use Rattle.evp_plan.specs.declared.step.Origin.TheVariants.{Standing, Stated}
+use Rattle.evp_plan.specs.declared.step.Step.{Step}
+use Rattle.evp_plan.specs.declared.cell.Cell.TheVariants.{Keep, Constant, Byte, Sign}
+
+-- 255 where the top bit of the byte is set, else 0
+abbrev pub sign_byte : ℕ → ℕ
+sign_byte byte = if nat_lt byte 128 then 0 else 255
+
+-- the byte that is made, where `old` stood
+abbrev pub cell_value : List ℕ → ℕ → Cell → ℕ → ℕ
+cell_value from at Keep old = old
+cell_value from at (Constant byte) old = byte
+cell_value from at (Byte offset) old = slice_index from (at + offset)
+cell_value from at (Sign offset) old = sign_byte (slice_index from (at + offset))
+
+-- the bytes, with those in front made as the cells say
+abbrev pub painted : List ℕ → ℕ → List Cell → List ℕ → List ℕ
+painted from at [] out = out
+painted from at (cell ∷ cells) [] = []
+painted from at (cell ∷ cells) (old ∷ out) = cell_value from at cell old ∷ painted from at cells out
+
+-- the bytes, with those from t on made as the cells say
+abbrev pub painted_at : List ℕ → ℕ → ℕ → List Cell → List ℕ → List ℕ
+painted_at from at zero cells out = painted from at cells out
+painted_at from at (suc t) cells [] = []
+painted_at from at (suc t) cells (byte ∷ out) = byte ∷ painted_at from at t cells out
+
+-- what is made by the first, where the second was made before
+abbrev pub over : Cell → Cell → Cell
+over Keep below = below
+over (Constant byte) below = Constant byte
+over (Byte offset) below = Byte offset
+over (Sign offset) below = Sign offset
+
+abbrev pub laid_over : List Cell → List Cell → List Cell
+laid_over [] cells = cells
+laid_over (cell ∷ upper) [] = []
+laid_over (cell ∷ upper) (below ∷ cells) = over cell below ∷ laid_over upper cells
+
+-- the cells, with others laid over those from a place on
+abbrev pub overlaid : ℕ → List Cell → List Cell → List Cell
+overlaid zero upper cells = laid_over upper cells
+overlaid (suc place) upper [] = []
+overlaid (suc place) upper (cell ∷ cells) = cell ∷ overlaid place upper cells
+
+-- ---- numbers
+
+-- so many bytes from an offset on
+abbrev pub bytes_from : ℕ → ℕ → List Cell
+bytes_from offset zero = []
+bytes_from offset (suc n) = Byte offset ∷ bytes_from (suc offset) n
+
+-- the lowest first
+abbrev pub turned : {A : Type 0} → Order → List A → List A
+turned Little xs = xs
+turned Big xs = reverse xs
+
+-- cut or filled up to a size
+abbrev pub resized : {A : Type 0} → ℕ → A → List A → List A
+resized zero more xs = []
+resized (suc size) more [] = more ∷ resized size more []
+resized (suc size) more (x ∷ xs) = x ∷ resized size more xs
+
+-- where the top bit of a number stands
+abbrev pub top_offset : Order → ℕ → ℕ → ℕ
+top_offset Little offset width = offset + width - 1
+top_offset Big offset width = offset
+
+-- what fills up a number of a kind
+abbrev pub filling : Kind → ℕ → Cell
+filling Int top = Sign top
+filling Unsigned top = Constant 0
+filling Char top = Constant 0
+filling Boolean top = Constant 0
+filling Enumeration top = Sign top
+
+-- a number of `size` bytes from one of `width` bytes at an offset
+abbrev pub number_cells : Order → ℕ → Order → Kind → ℕ → ℕ → List Cell
+number_cells order size from_order kind offset width =
+    turned order (resized size (filling kind (top_offset from_order offset width))
+    (turned from_order (bytes_from offset width)))
+
+-- stated bytes
+abbrev pub constants : List ℕ → List Cell
+constants bytes = map (λ byte. Constant byte) bytes
+
+-- ---- sixteen bytes at once
+
+-- what is made where a gather picks the byte at that place, keeps those bits and sets these
+abbrev pub blend_cell : ℕ → ℕ → ℕ → ℕ → Cell
+blend_cell at place keep constant = if nat_lt place 16 then Byte (at + place)
+    else (if nat_eq keep 0 then Constant constant else Keep)
+
+abbrev pub blend_cells : ℕ → List ℕ → List ℕ → List ℕ → List Cell
+blend_cells at [] keeps constants = []
+blend_cells at (place ∷ places) [] constants = []
+blend_cells at (place ∷ places) (keep ∷ keeps) [] = []
+blend_cells at (place ∷ places) (keep ∷ keeps) (constant ∷ constants) = blend_cell at place keep
+    constant ∷ blend_cells at places keeps constants
+
+-- ---- gathers one after another
+
+abbrev pub gather_cells : Gather → List Cell
+gather_cells gather = blend_cells gather.at gather.blend.mask.places gather.blend.keep
+    gather.blend.constant
+
+abbrev pub gathers_over : List Gather → List Cell → List Cell
+gathers_over [] cells = cells
+gathers_over (gather ∷ gathers) cells = gathers_over gathers
+    (overlaid gather.to (gather_cells gather) cells)
+
+-- inside a record of this length, from so many bytes
+abbrev pub IsGatherWithin : ℕ → ℕ → Gather → Type 0
+IsGatherWithin length reach gather = (gather.to + 16 ≤ length) × (gather.at + 16 ≤ reach)
+
+-- ---- what moves do
+
+-- what is made of each byte of a record, from so many bytes of the sender's
+pub record Moving : Type 0 where
+  pub cells : List Cell
+  pub reach : ℕ
+
+-- ---- steps
+
+-- a number from what it is made from
+abbrev pub origin_cells : Order → ℕ → Order → Origin → List Cell
+origin_cells order size from_order (Standing source) = number_cells order size from_order
+    source.kind source.offset source.size
+origin_cells order size from_order (Stated n) = constants (digits order size n)
+
+-- a field that is a single number
+abbrev pub op_cells : Order → ℕ → Order → Op → List Cell
+op_cells order size from_order (Number kind origin) = origin_cells order size from_order origin
+op_cells order size from_order (Text from) = []
+op_cells order size from_order (Nest offset) = []
+op_cells order size from_order (Each count elements) = []
+op_cells order size from_order (Many origin elements) = []
+
+-- the cells, with those of these steps laid over
+abbrev pub steps_over : Order → Order → List Step → List Cell → List Cell
+steps_over order from_order [] cells = cells
+steps_over order from_order (step ∷ steps) cells =
+    steps_over order from_order steps
+    (overlaid step.task.offset (op_cells order step.task.size from_order step.task.op) cells)
+
+-- where the last of the fields ends
+abbrev pub end_of : List Step → ℕ
+end_of [] = 0
+end_of (step ∷ steps) = max (step.task.offset + step.task.size) (end_of steps)
+
+-- where the last of the sender's numbers ends
+abbrev pub source_end : Op → ℕ
+source_end (Number kind (Standing source)) = source.offset + source.size
+source_end (Number kind (Stated n)) = 0
+source_end (Text from) = 0
+source_end (Nest offset) = 0
+source_end (Each count elements) = 0
+source_end (Many origin elements) = 0
+
+abbrev pub reach_of : List Step → ℕ
+reach_of [] = 0
+reach_of (step ∷ steps) = max (source_end step.task.op) (reach_of steps)
+
+-- a single number whose bytes are some of the sender's, or stated
+abbrev pub is_plain_kind : Kind → Bool
+is_plain_kind Int = true
+is_plain_kind Unsigned = true
+is_plain_kind Char = true
+is_plain_kind Boolean = false
+is_plain_kind Enumeration = true
+
+abbrev pub is_plain_op : Op → Bool
+is_plain_op (Number kind (Standing source)) = is_plain_kind source.kind
+is_plain_op (Number kind (Stated n)) = true
+is_plain_op (Text from) = false
+is_plain_op (Nest offset) = false
+is_plain_op (Each count elements) = false
+is_plain_op (Many origin elements) = false
+
+-- the moves make what these steps make, from a sender of this order
+pub record IsMovesOf (from_order order : Order) (steps : List Step) (moves : Moving) : Type 0 where
+  pub plain : list_all (λ step. is_plain_op step.task.op) steps ≡ true
+  pub cells : moves.cells ≡ steps_over order from_order steps (replicate (end_of steps) Keep)
+  pub reach : moves.reach ≤ reach_of steps
+
+-- those of each list of steps, where there are some
+abbrev pub AreMovesOf : Order → Order → List (List Step) → List (Option Moving) → Type 0
+AreMovesOf from_order order table all =
+    (k : ℕ) (moves : Moving) → slice_get all k ≡ Some (Some moves)
+    → IsMovesOf from_order order (get_or table k []) moves

@@ -10,7 +10,8 @@ residue-below (pos n) m k low is = absurd (omega (arith, ints, low))
 residue-below (negsuc n) m k low is = let same : n ≡ k = omega (arith, ints, is) in ap (λ (i : ℕ). m - 1 - i % m) same
 
 -- the digits of a number are those of what it is modulo the power
-pub digits-low : (order : Order) (size : ℕ) (n : ℤ) (r : ℕ) → r ≡ residue n (2 ^ (8 * size)) → r < 2 ^ (8 * size) → digits order size (pos r) ≡ digits order size n
+pub digits-low : (order : Order) (size : ℕ) (n : ℤ) (r : ℕ) → r ≡ residue n (2 ^ (8 * size)) → r < 2 ^ (8 * size)
+    → digits order size (pos r) ≡ digits order size n
 digits-low order size n r is below =
     let same : r % 2 ^ (8 * size) ≡ residue n (2 ^ (8 * size)) = mod-eq_of_lt below ∙ is in
     ap (λ (m : ℕ). low_first order (low_digits size m)) same

@@ -37,48 +37,61 @@ pub measured_value : (plan : Planned) (held : Record) (to : Layout) (limit : ℕ
 measured_value plan held to limit is stands =
     ap outcome (stands.measures held.bytes (value_of held) limit (viewed_as held is)) ∙ outcome-sized (convert to (value_of held) limit)
 
-pub can_whole : (plan : Planned) (held : Record) (to : Layout) (image : Image) (n placed : ℕ) → StandsFor plan held.layout to → IsRecord held → image ≡ image_of held.layout held.bytes → n ≡ length plan.table - 1 → placed ≡ 0
+pub can_whole : (plan : Planned) (held : Record) (to : Layout) (image : Image) (n placed : ℕ) → StandsFor plan held.layout to
+    → IsRecord held → image ≡ image_of held.layout held.bytes → n ≡ length plan.table - 1 → placed ≡ 0
     → CanRun plan image (program_at plan.table n) 0 placed
 can_whole plan held to image n placed stands is image_is n_is placed_is =
     let P : Image → Type 0 = λ i. CanRun plan i (program_at plan.table n) 0 placed in
     let P' : ℕ → Type 0 = λ m. CanRun plan (image_of held.layout held.bytes) (program_at plan.table m) 0 placed in
     subst P (sym image_is)
     (subst P' (sym n_is)
-    (record { ready = stands.reads held.bytes (value_of held) (viewed_as held is); levels = 16; room = omega (arith, placed_is); length = plan.fixed; sound = stands.sound }))
+    (record {
+      ready = stands.reads held.bytes (value_of held) (viewed_as held is);
+      levels = 16;
+      room = omega (arith, placed_is);
+      length = plan.fixed;
+      sound = stands.sound;
+    }))
 
 -- ---- writing
 
-record ConvertedTo (m : Made Datum) (n : ℕ) : Type 0 where
-  value : Datum
-  is : m ≡ made value n
+pub record ConvertedTo (m : Made Datum) (n : ℕ) : Type 0 where
+  pub value : Datum
+  pub is : m ≡ made value n
 
 sized_made : (m : Made Datum) (n : ℕ) → sized m ≡ made tt n → ConvertedTo m n
 sized_made (made value size) n is = let same : size ≡ n = cc in record { value = value; is = ap (λ (s : ℕ). made value s) same }
 sized_made (unfit place) n is = cc
 sized_made (large place) n is = cc
 
-moved_size : (plan : Planned) (held : Record) (to : Layout) (n : ℕ) → StandsFor plan held.layout to → IsRecord held → IsSizeOf plan held n → (moved_whole plan (image_of held.layout held.bytes)).size ≡ n
+moved_size : (plan : Planned) (held : Record) (to : Layout) (n : ℕ) → StandsFor plan held.layout to → IsRecord held → IsSizeOf plan held n
+    → (moved_whole plan (image_of held.layout held.bytes)).size ≡ n
 moved_size plan held to n stands is size =
     let seen = viewed_as held is in
-    let converted = sized_made (convert to (value_of held) size.limit) n (sym (stands.measures held.bytes (value_of held) size.limit seen) ∙ size.is) in
+    let converted = sized_made (convert to (value_of held) size.limit) n
+    (sym (stands.measures held.bytes (value_of held) size.limit seen) ∙ size.is) in
     stands.sizes held.bytes (value_of held) converted.value size.limit n seen converted.is
 
 -- the pieces by the values that the code has
-same_pieces : (plan : Planned) (held : Record) (image : Image) (number fixed : ℕ) → image ≡ image_of held.layout held.bytes → number ≡ length plan.table - 1 → fixed ≡ plan.fixed
+same_pieces : (plan : Planned) (held : Record) (image : Image) (number fixed : ℕ) → image ≡ image_of held.layout held.bytes
+    → number ≡ length plan.table - 1 → fixed ≡ plan.fixed
     → moved image (machine_in plan) (program_at plan.table number) 0 0 fixed ≡ moved_whole plan (image_of held.layout held.bytes)
 same_pieces plan held image number fixed image_is number_is fixed_is =
     ap (λ (i : Image). moved i (machine_in plan) (program_at plan.table number) 0 0 fixed) image_is
     ∙ ap (λ (m : ℕ). moved (image_of held.layout held.bytes) (machine_in plan) (program_at plan.table m) 0 0 fixed) number_is
     ∙ ap (λ (f : ℕ). moved (image_of held.layout held.bytes) (machine_in plan) (whole_program plan) 0 0 f) fixed_is
 
-pub fits_whole : (plan : Planned) (held : Record) (to : Layout) (image : Image) (number fixed n room : ℕ) → StandsFor plan held.layout to → IsRecord held → IsSizeOf plan held n → image ≡ image_of held.layout held.bytes
-    → number ≡ length plan.table - 1 → fixed ≡ plan.fixed → room ≡ n → (moved image (machine_in plan) (program_at plan.table number) 0 0 fixed).size ≤ room
+pub fits_whole : (plan : Planned) (held : Record) (to : Layout) (image : Image) (number fixed n room : ℕ) → StandsFor plan held.layout to
+    → IsRecord held → IsSizeOf plan held n → image ≡ image_of held.layout held.bytes
+    → number ≡ length plan.table - 1 → fixed ≡ plan.fixed → room ≡ n
+    → (moved image (machine_in plan) (program_at plan.table number) 0 0 fixed).size ≤ room
 fits_whole plan held to image number fixed n room stands is size image_is number_is fixed_is room_is =
     let same = ap (λ (p : Pieces). p.size) (same_pieces plan held image number fixed image_is number_is fixed_is) in
     let whole = moved_size plan held to n stands is size in
     omega (arith, same, whole, room_is)
 
-pub can_move_whole : (plan : Planned) (held : Record) (to : Layout) (image : Image) (number n room : ℕ) → StandsFor plan held.layout to → IsRecord held → IsSizeOf plan held n → image ≡ image_of held.layout held.bytes
+pub can_move_whole : (plan : Planned) (held : Record) (to : Layout) (image : Image) (number n room : ℕ) → StandsFor plan held.layout to
+    → IsRecord held → IsSizeOf plan held n → image ≡ image_of held.layout held.bytes
     → number ≡ length plan.table - 1 → room ≡ n → CanMove plan image (program_at plan.table number) 0 0 room
 can_move_whole plan held to image number n room stands is size image_is number_is room_is =
     let P : Image → Type 0 = λ i. CanMove plan i (program_at plan.table number) 0 0 room in
@@ -87,9 +100,16 @@ can_move_whole plan held to image number n room stands is size image_is number_i
     let whole = moved_size plan held to n stands is size in
     subst P (sym image_is)
     (subst P' (sym number_is)
-    (record { ready = stands.reads held.bytes (value_of held) (viewed_as held is); levels = 16; length = plan.fixed; sound = stands.sound; room = omega (arith, grows, whole, room_is) }))
+    (record {
+      ready = stands.reads held.bytes (value_of held) (viewed_as held is);
+      levels = 16;
+      length = plan.fixed;
+      sound = stands.sound;
+      room = omega (arith, grows, whole, room_is);
+    }))
 
-pub converted_whole : (plan : Planned) (held : Record) (to : Layout) (image : Image) (number fixed n end : ℕ) (start new : List ℕ) → StandsFor plan held.layout to → IsRecord held → IsSizeOf plan held n
+pub converted_whole : (plan : Planned) (held : Record) (to : Layout) (image : Image) (number fixed n end : ℕ) (start new : List ℕ)
+    → StandsFor plan held.layout to → IsRecord held → IsSizeOf plan held n
     → image ≡ image_of held.layout held.bytes → number ≡ length plan.table - 1 → fixed ≡ plan.fixed → start ≡ replicate n 0
     → IsPut (moved image (machine_in plan) (program_at plan.table number) 0 0 fixed) end start new → AreConverted plan held new
 converted_whole plan held to image number fixed n end start new stands is size image_is number_is fixed_is start_is put =
@@ -97,5 +117,7 @@ converted_whole plan held to image number fixed n end start new stands is size i
     let same = same_pieces plan held image number fixed image_is number_is fixed_is in
     let long = moved_size plan held to n stands is size in
     let written : new ≡ laid_out whole =
-    put.put ∙ ap (λ (p : Pieces). put_pieces p.all start) same ∙ ap (put_pieces whole.all) (start_is ∙ ap (λ (m : ℕ). replicate m 0) (sym long)) in
-    λ to' value limit size' stands' made_as. written ∙ stands'.writes held.bytes (value_of held) value limit size' (viewed_as held is) made_as
+    put.put ∙ ap (λ (p : Pieces). put_pieces p.all start) same ∙ ap (put_pieces whole.all)
+    (start_is ∙ ap (λ (m : ℕ). replicate m 0) (sym long)) in
+    λ to' value limit size' stands' made_as. written ∙ stands'.writes held.bytes (value_of held) value limit size' (viewed_as held is)
+    made_as

@@ -1,5 +1,6 @@
 -- The text before the first zero byte.
-use Rattle.std.proofs.Common.{◌≡◌, ℕ, suc, ◌+◌, Bool, true, false, nat_eq, subst, arith, List, [], ◌∷◌, ◌++◌, length, take, Option, Some, None, refl, sym, ap, ◌∙◌}
+use Rattle.std.proofs.Common.{◌≡◌, ℕ, suc, ◌+◌, Bool, true, false, nat_eq, subst, arith, List, [], ◌∷◌, ◌++◌, length, take, Option, Some}
+use Rattle.std.proofs.Common.{None, refl, sym, ap, ◌∙◌}
 use Rattle.std.specs.Prelude.{option_map, if◌then◌else◌}
 use Rattle.std.proofs.lemmas.Bool.{eqb-true}
 use Rattle.evp_plan.specs.Standing.{ended}
@@ -7,7 +8,8 @@ use Rattle.evp_runner.specs.Pieces.{block_of}
 use Rattle.evp_format.specs.Viewing.{until_zero}
 use Rattle.evp_record.proofs.Reading.{take-until_zero}
 
-text_at : (bytes : List ℕ) (n : ℕ) (found : Option (List ℕ)) → until_zero bytes ≡ found → Some n ≡ option_map length found → Some (take n bytes) ≡ found
+text_at : (bytes : List ℕ) (n : ℕ) (found : Option (List ℕ)) → until_zero bytes ≡ found → Some n ≡ option_map length found
+    → Some (take n bytes) ≡ found
 text_at bytes n None is long = cc
 text_at bytes n (Some text) is long =
     let same : n ≡ length text = cc in
@@ -17,7 +19,8 @@ pub text_before : (bytes : List ℕ) (n : ℕ) → Some n ≡ option_map length 
 text_before bytes n long = text_at bytes n (until_zero bytes) refl long
 
 -- with the zero byte
-zero_found : (byte : ℕ) (bytes : List ℕ) (rest : Option (List ℕ)) (test : Bool) (t : List ℕ) → nat_eq byte 0 ≡ test → (if test then Some [] else option_map (λ r. byte ∷ r) rest) ≡ Some t
+zero_found : (byte : ℕ) (bytes : List ℕ) (rest : Option (List ℕ)) (test : Bool) (t : List ℕ) → nat_eq byte 0 ≡ test
+    → (if test then Some [] else option_map (λ r. byte ∷ r) rest) ≡ Some t
     → ((r : List ℕ) → rest ≡ Some r → take (length r + 1) bytes ≡ r ++ 0 ∷ []) → take (length t + 1) (byte ∷ bytes) ≡ t ++ 0 ∷ []
 zero_found byte bytes rest true t test found behind =
     let none : [] ≡ t = cc in
@@ -35,11 +38,13 @@ take-block : (bytes t : List ℕ) → until_zero bytes ≡ Some t → take (leng
 take-block [] t found = cc
 take-block (byte ∷ bytes) t found = zero_found byte bytes (until_zero bytes) (nat_eq byte 0) t refl found (λ r is. take-block bytes r is)
 
-block_at : (bytes : List ℕ) (n : ℕ) (found : Option (List ℕ)) → until_zero bytes ≡ found → Some n ≡ option_map length found → Some (take (n + 1) bytes) ≡ block_of (ended found)
+block_at : (bytes : List ℕ) (n : ℕ) (found : Option (List ℕ)) → until_zero bytes ≡ found → Some n ≡ option_map length found
+    → Some (take (n + 1) bytes) ≡ block_of (ended found)
 block_at bytes n None is long = cc
 block_at bytes n (Some t) is long =
     let same : n ≡ length t = cc in
     ap Some (ap (λ (k : ℕ). take (k + 1) bytes) same ∙ take-block bytes t is)
 
-pub block_before : (bytes : List ℕ) (n : ℕ) → Some n ≡ option_map length (until_zero bytes) → Some (take (n + 1) bytes) ≡ block_of (ended (until_zero bytes))
+pub block_before : (bytes : List ℕ) (n : ℕ) → Some n ≡ option_map length (until_zero bytes)
+    → Some (take (n + 1) bytes) ≡ block_of (ended (until_zero bytes))
 block_before bytes n long = block_at bytes n (until_zero bytes) refl long

@@ -1,5 +1,6 @@
 -- What a conversion answers to the caller.
-use Rattle.std.specs.Prelude.{◌≡◌, ℕ, zero, suc, ◌+◌, ◌*◌, nat_lt, if◌then◌else◌, Option, Some, None, not, List, [], ◌∷◌, ◌++◌, Result, Ok, Err}
+use Rattle.std.specs.Prelude.{◌≡◌, ℕ, zero, suc, ◌+◌, ◌*◌, nat_lt, if◌then◌else◌, Option, Some}
+use Rattle.std.specs.Prelude.{None, not, List, [], ◌∷◌, ◌++◌, Result, Ok, Err}
 use Rattle.evp_format.specs.declared.place.PlaceStep.{PlaceStep}
 use Rattle.evp_format.specs.declared.place.PlaceStep.TheVariants.{At}
 use Rattle.evp_format.specs.Bytes.{next_block}
@@ -32,10 +33,14 @@ block_outcome limit place k size = outcome (take_block limit place k size sized_
 
 -- whether a step's single number fits
 abbrev pub step_verdict : Image → ℕ → Step → List PlaceStep → Result (Unit {0}) ConvertFault
-step_verdict image at step place = verdict (unless_unfit (not (op_fits image at step.task.size step.task.op)) (place ++ At step.task.field ∷ []) (λ _. sized_nothing 0))
+step_verdict image at step place = verdict
+    (unless_unfit (not (op_fits image at step.task.size step.task.op))
+    (place ++ At step.task.field ∷ []) (λ _. sized_nothing 0))
 
--- the size behind the block of n elements of this size, where the limit allows it; none take no block
+-- the size behind the block of n elements of this size, where the limit allows it; none take no
+-- block
 abbrev pub room_for : ℕ → ℕ → ℕ → ℕ → Option ℕ
 room_for limit zero element_size size = Some size
 room_for limit (suc n) element_size size =
-    if nat_lt limit (next_block size + suc n * element_size) then None else Some (next_block size + suc n * element_size)
+    if nat_lt limit (next_block size + suc n * element_size) then None
+    else Some (next_block size + suc n * element_size)

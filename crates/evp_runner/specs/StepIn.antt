@@ -9,24 +9,30 @@ use Rattle.evp_plan.specs.declared.step.Part.{Part}
 use Rattle.evp_plan.specs.declared.step.Run.{Run}
 use Rattle.evp_format.specs.Datum.{Datum, null}
 use Rattle.evp_plan.specs.Standing.{text_by, run_count, element_place}
-use Rattle.evp_plan.specs.Ready.{IsOriginThere, IsTextBy, IsStartThere, IsOpThere, AreElementsThere, IsRunThere, IsDefaultThere, IsPartThere, IsReady}
+use Rattle.evp_plan.specs.Ready.{IsOriginThere, IsTextBy, IsStartThere, IsOpThere, AreElementsThere}
+use Rattle.evp_plan.specs.Ready.{IsRunThere, IsDefaultThere, IsPartThere, IsReady}
 use Rattle.evp_plan.specs.Sound.{IsSoundPart, IsSoundOp, IsSound}
 use Rattle.evp_runner.specs.declared.sender.Sender.{Sender}
 
 abbrev pub image_in : Sender → Image
-image_in sender = record { order = sender.order; pointer = sender.pointer; bytes = sender.bytes.now }
+image_in sender = record {
+  order = sender.order;
+  pointer = sender.pointer;
+  bytes = sender.bytes.now;
+}
 
 -- the program of the records inside a step's field
 abbrev pub inside : Planned → Step → Program
 inside plan step = inner_program (programs plan.table) step.inner
 
 -- a program can work on the record at `at`, from a place of so many steps
-pub record CanRun (plan : Planned) (image : Image) (program : Program) (at placed : ℕ) : Type 0 where
-  pub ready : IsReady image program at
-  pub levels : ℕ
-  pub room : placed + 2 * levels ≤ 32
-  pub length : ℕ
-  pub sound : IsSound plan.pointer program levels length
+pub record CanRun (plan : Planned) (image : Image) (program : Program) (at placed : ℕ) : Type 0
+  where
+    pub ready : IsReady image program at
+    pub levels : ℕ
+    pub room : placed + 2 * levels ≤ 32
+    pub length : ℕ
+    pub sound : IsSound plan.pointer program levels length
 
 -- a step can, from the place of its record
 pub record CanStep (plan : Planned) (image : Image) (step : Step) (at placed : ℕ) : Type 0 where
@@ -34,28 +40,36 @@ pub record CanStep (plan : Planned) (image : Image) (step : Step) (at placed : �
   pub levels : ℕ
   pub room : placed + 2 + 2 * levels ≤ 32
   pub length : ℕ
-  pub sound : IsSoundOp plan.pointer length step.task.offset step.task.size step.task.op (λ size. IsSound plan.pointer (inside plan step) levels size)
+  pub sound : IsSoundOp plan.pointer length step.task.offset step.task.size step.task.op
+      (λ size. IsSound plan.pointer (inside plan step) levels size)
 
 -- the elements of a step's array can, from the array's place
-pub record CanList (plan : Planned) (image : Image) (step : Step) (elements : Elements) (at placed : ℕ) : Type 0 where
-  pub ready : AreElementsThere image at elements.part (λ s. IsReady image (inside plan step) s) elements.run
+pub record CanList (plan : Planned) (image : Image) (step : Step) (elements : Elements)
+    (at placed : ℕ) : Type 0 where
+  pub ready : AreElementsThere image at elements.part (λ s. IsReady image (inside plan step) s)
+      elements.run
   pub levels : ℕ
   pub room : placed + 1 + 2 * levels ≤ 32
-  pub sound : IsSoundPart plan.pointer step.task.size elements.part (λ size. IsSound plan.pointer (inside plan step) levels size)
+  pub sound : IsSoundPart plan.pointer step.task.size elements.part
+      (λ size. IsSound plan.pointer (inside plan step) levels size)
 
 -- the elements of this array of the sender's can
-pub record CanElements (plan : Planned) (image : Image) (step : Step) (part : Part) (run : Run) (at placed : ℕ) : Type 0 where
+pub record CanElements (plan : Planned) (image : Image) (step : Step) (part : Part) (run : Run)
+    (at placed : ℕ) : Type 0 where
   pub ready : IsRunThere image at part (λ s. IsReady image (inside plan step) s) run
   pub levels : ℕ
   pub room : placed + 1 + 2 * levels ≤ 32
-  pub sound : IsSoundPart plan.pointer step.task.size part (λ size. IsSound plan.pointer (inside plan step) levels size)
+  pub sound : IsSoundPart plan.pointer step.task.size part
+      (λ size. IsSound plan.pointer (inside plan step) levels size)
 
 -- an element at s can
-pub record CanPart (plan : Planned) (image : Image) (step : Step) (part : Part) (s placed : ℕ) : Type 0 where
+pub record CanPart (plan : Planned) (image : Image) (step : Step) (part : Part) (s placed : ℕ) :
+    Type 0 where
   pub ready : IsPartThere image part (λ s'. IsReady image (inside plan step) s') s
   pub levels : ℕ
   pub room : placed + 1 + 2 * levels ≤ 32
-  pub sound : IsSoundPart plan.pointer step.task.size part (λ size. IsSound plan.pointer (inside plan step) levels size)
+  pub sound : IsSoundPart plan.pointer step.task.size part
+      (λ size. IsSound plan.pointer (inside plan step) levels size)
 
 -- the steps inside stand before list n
 abbrev pub IsEarlier : ℕ → Step → Type 0
@@ -81,25 +95,33 @@ pub record CanMoveStep (plan : Planned) (image : Image) (step : Step) (at t n : 
   pub ready : IsOpThere image at step.task.op (λ s. IsReady image (inside plan step) s)
   pub levels : ℕ
   pub length : ℕ
-  pub sound : IsSoundOp plan.pointer length step.task.offset step.task.size step.task.op (λ size. IsSound plan.pointer (inside plan step) levels size)
+  pub sound : IsSoundOp plan.pointer length step.task.offset step.task.size step.task.op
+      (λ size. IsSound plan.pointer (inside plan step) levels size)
   pub room : t + length ≤ n
 
 -- elements can be written
-pub record CanMoveList (plan : Planned) (image : Image) (step : Step) (elements : Elements) (at : ℕ) : Type 0 where
-  pub ready : AreElementsThere image at elements.part (λ s. IsReady image (inside plan step) s) elements.run
+pub record CanMoveList (plan : Planned) (image : Image) (step : Step) (elements : Elements) (at : ℕ)
+    : Type 0 where
+  pub ready : AreElementsThere image at elements.part (λ s. IsReady image (inside plan step) s)
+      elements.run
   pub levels : ℕ
-  pub sound : IsSoundPart plan.pointer step.task.size elements.part (λ size. IsSound plan.pointer (inside plan step) levels size)
+  pub sound : IsSoundPart plan.pointer step.task.size elements.part
+      (λ size. IsSound plan.pointer (inside plan step) levels size)
 
 -- what an element is made from stands there
 abbrev pub IsSourceThere : Planned → Image → Step → Part → Option ℕ → Type 0
-IsSourceThere plan image step part None = IsDefaultThere part (λ s. IsReady image (inside plan step) s)
-IsSourceThere plan image step part (Some s) = (s ≤ length image.bytes) × IsPartThere image part (λ s'. IsReady image (inside plan step) s') s
+IsSourceThere plan image step part None = IsDefaultThere part
+    (λ s. IsReady image (inside plan step) s)
+IsSourceThere plan image step part (Some s) = (s ≤ length image.bytes)
+    × IsPartThere image part (λ s'. IsReady image (inside plan step) s') s
 
 -- an element can be written
-pub record CanMovePart (plan : Planned) (image : Image) (step : Step) (part : Part) (source : Option ℕ) : Type 0 where
+pub record CanMovePart (plan : Planned) (image : Image) (step : Step) (part : Part)
+    (source : Option ℕ) : Type 0 where
   pub ready : IsSourceThere plan image step part source
   pub levels : ℕ
-  pub sound : IsSoundPart plan.pointer step.task.size part (λ size. IsSound plan.pointer (inside plan step) levels size)
+  pub sound : IsSoundPart plan.pointer step.task.size part
+      (λ size. IsSound plan.pointer (inside plan step) levels size)
 
 -- a text's pointer stands there
 abbrev pub IsTextSource : Image → Option ℕ → Type 0
@@ -118,4 +140,5 @@ AreFew image at n (Some run) = n ≤ run_count image at run
 -- the sender's array begins there, and element k is inside the bytes
 abbrev pub IsElementThere : Image → ℕ → ℕ → Option Run → Type 0
 IsElementThere image at k None = ⊤
-IsElementThere image at k (Some run) = IsStartThere image run.pointed (at + run.offset) × (element_place image at run k ≤ length image.bytes)
+IsElementThere image at k (Some run) = IsStartThere image run.pointed (at + run.offset)
+    × (element_place image at run k ≤ length image.bytes)

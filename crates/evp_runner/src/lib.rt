@@ -4,9 +4,13 @@
 mod convert_fault;
 mod measuring;
 mod moving;
+mod passing;
 mod reading;
+mod run_fault;
 mod running;
 mod sender;
 
 pub use convert_fault::ConvertFault;
+pub use passing::{pass, run};
+pub use run_fault::RunFault;
 pub use running::{measure, run_into};

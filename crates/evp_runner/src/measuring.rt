@@ -1,17 +1,21 @@
 //! Measuring: the packed size of a record in the receiver's format, or the first fault.
 
-ghost use Rattle.std.specs.Prelude.{◌≡◌, false, ◌+◌, ◌*◌, ◌^◌, ◌<◌, ◌≤◌, ◌≤ℤ◌, ℕ, pos, IsTrue, [], ◌∷◌, ◌++◌, length, IfOk, IfSome, Some, slice_get};
+ghost use Rattle.std.specs.Prelude.{◌≡◌, false, ◌+◌, ◌*◌, ◌^◌, ◌<◌, ◌≤◌, ◌≤ℤ◌, ℕ, pos, IsTrue, []};
+ghost use Rattle.std.specs.Prelude.{◌∷◌, ◌++◌, length, IfOk, IfSome, Some, slice_get};
 ghost use Rattle.evp_base.specs.Numbers.{is_width};
 ghost use Rattle.evp_format.specs.Converting.{make_text};
 ghost use Rattle.evp_format.specs.declared.place.PlaceStep.{PlaceStep};
 ghost use Rattle.evp_plan.specs.declared.step.Step.{Step};
 ghost use Rattle.evp_plan.specs.declared.step.Op.{Op};
-ghost use Rattle.evp_plan.specs.Measuring.{tested, measured, measured_op, measured_part, measured_list, measured_run, has_other_count, no_block, counted_block};
+ghost use Rattle.evp_plan.specs.Measuring.{tested, measured, measured_op, measured_part};
+ghost use Rattle.evp_plan.specs.Measuring.{measured_list, measured_run, has_other_count, no_block};
+ghost use Rattle.evp_plan.specs.Measuring.{counted_block};
 ghost use Rattle.evp_plan.specs.Program.{program_of, programs, program_at};
 ghost use Rattle.evp_plan.specs.Ready.{IsTextBy, IsOriginThere};
 ghost use Rattle.evp_plan.specs.Standing.{text_by, origin_number, run_count};
 ghost use Rattle.evp_runner.specs.Outcome.{outcome, verdict, block_outcome, step_verdict, room_for};
-ghost use Rattle.evp_runner.specs.StepIn.{image_in, inside, CanRun, CanStep, CanList, CanElements, CanPart, IsEarlier, IsCountThere};
+ghost use Rattle.evp_runner.specs.StepIn.{image_in, inside, CanRun, CanStep, CanList, CanElements};
+ghost use Rattle.evp_runner.specs.StepIn.{CanPart, IsEarlier, IsCountThere};
 
 use crate::ConvertFault;
 use crate::reading::{count_of, number_from, number_there, start_of, text_there};
@@ -62,7 +66,8 @@ fn measure_text(
     requires there { IsTextBy (image_in measure.now.sender) s }
     requires size_small { size < 2 ^ 32 }
     requires room { length place.now < 32 }
-    ensures value { result ≡ outcome (make_text measure.now.limit (place.now ++ step ∷ []) (Some (text_by (image_in measure.now.sender) s)) size) }
+    ensures value { result ≡ outcome (make_text measure.now.limit (place.now ++ step ∷ [])
+        (Some (text_by (image_in measure.now.sender) s)) size) }
     ensures bound { IfOk result (λ n. n < 2 ^ 32) }
 {
     match text_there(&measure.sender, s) {
@@ -74,7 +79,8 @@ fn measure_text(
 // Whether the step's number fits, if it makes a single number.
 fn test_step(measure: &Measure, step: &Step, at: usize, place: &Place) -> Result<(), ConvertFault>
     requires at_inside { at ≤ length measure.now.sender.bytes.now }
-    requires can { CanStep measure.now.plan.now (image_in measure.now.sender) step.now at (length place.now) }
+    requires can { CanStep measure.now.plan.now (image_in measure.now.sender) step.now at
+        (length place.now) }
     ensures { result ≡ step_verdict (image_in measure.now.sender) at step.now place.now }
 {
     if let Op::Number(kind, origin) = &step.task.op {
@@ -94,8 +100,11 @@ fn test_numbers(
     place: &Place,
 ) -> Result<(), ConvertFault>
     requires at_inside { at ≤ length measure.now.sender.bytes.now }
-    requires can { (k : ℕ) (step : Step) → slice_get steps.now k ≡ Some step → CanStep measure.now.plan.now (image_in measure.now.sender) step at (length place.now) }
-    ensures { result ≡ verdict (tested (image_in measure.now.sender) at (program_of (programs measure.now.plan.now.table) steps.now) place.now) }
+    requires can { (k : ℕ) (step : Step) → slice_get steps.now k ≡ Some step
+        → CanStep measure.now.plan.now (image_in measure.now.sender) step at (length place.now) }
+    ensures { result
+        ≡ verdict (tested (image_in measure.now.sender) at
+        (program_of (programs measure.now.plan.now.table) steps.now) place.now) }
 {
     for step in steps {
         test_step(measure, step, at, place)?;
@@ -115,8 +124,10 @@ pub(crate) fn measure_record(
     requires known { number < length measure.now.plan.now.table }
     requires at_inside { at ≤ length measure.now.sender.bytes.now }
     requires size_small { size < 2 ^ 32 }
-    requires can { CanRun measure.now.plan.now (image_in measure.now.sender) (program_at measure.now.plan.now.table number) at (length place.now) }
-    ensures value { result ≡ outcome (measured measure.now.limit (image_in measure.now.sender) (program_at measure.now.plan.now.table number) place.now at size) }
+    requires can { CanRun measure.now.plan.now (image_in measure.now.sender)
+        (program_at measure.now.plan.now.table number) at (length place.now) }
+    ensures value { result ≡ outcome (measured measure.now.limit (image_in measure.now.sender)
+        (program_at measure.now.plan.now.table number) place.now at size) }
     ensures bound { IfOk result (λ n. n < 2 ^ 32) }
 {
     let steps = measure.plan.table()[number].as_slice();
@@ -141,9 +152,14 @@ fn measure_step(
     requires known { number < length measure.now.plan.now.table }
     requires at_inside { at ≤ length measure.now.sender.bytes.now }
     requires size_small { size < 2 ^ 32 }
-    requires can { CanStep measure.now.plan.now (image_in measure.now.sender) step.now at (length place.now) }
+    requires can { CanStep measure.now.plan.now (image_in measure.now.sender) step.now at
+        (length place.now) }
     requires earlier { IsEarlier number step.now }
-    ensures value { result ≡ outcome (measured_op measure.now.limit (image_in measure.now.sender) step.now.task.size step.now.task.op (measured measure.now.limit (image_in measure.now.sender) (inside measure.now.plan.now step.now)) (place.now ++ PlaceStep.At step.now.task.field ∷ []) at size) }
+    ensures value { result ≡ outcome (measured_op measure.now.limit (image_in measure.now.sender)
+        step.now.task.size step.now.task.op
+        (measured measure.now.limit (image_in measure.now.sender)
+        (inside measure.now.plan.now step.now)) (place.now ++ PlaceStep.At step.now.task.field ∷ [])
+        at size) }
     ensures bound { IfOk result (λ n. n < 2 ^ 32) }
 {
     let last = PlaceStep::At(step.task.field);
@@ -180,9 +196,11 @@ fn measure_inside(
     requires known { number < length measure.now.plan.now.table }
     requires s_inside { s ≤ length measure.now.sender.bytes.now }
     requires size_small { size < 2 ^ 32 }
-    requires can { CanRun measure.now.plan.now (image_in measure.now.sender) (inside measure.now.plan.now step.now) s (length place.now) }
+    requires can { CanRun measure.now.plan.now (image_in measure.now.sender)
+        (inside measure.now.plan.now step.now) s (length place.now) }
     requires earlier { IsEarlier number step.now }
-    ensures value { result ≡ outcome (measured measure.now.limit (image_in measure.now.sender) (inside measure.now.plan.now step.now) place.now s size) }
+    ensures value { result ≡ outcome (measured measure.now.limit (image_in measure.now.sender)
+        (inside measure.now.plan.now step.now) place.now s size) }
     ensures bound { IfOk result (λ n. n < 2 ^ 32) }
 {
     match step.inner {
@@ -218,9 +236,13 @@ fn measure_each(
     requires known { number < length measure.now.plan.now.table }
     requires at_inside { at ≤ length measure.now.sender.bytes.now }
     requires size_small { size < 2 ^ 32 }
-    requires can { CanList measure.now.plan.now (image_in measure.now.sender) step.now elements.now at (length place) }
+    requires can { CanList measure.now.plan.now (image_in measure.now.sender) step.now elements.now
+        at (length place) }
     requires earlier { IsEarlier number step.now }
-    ensures value { result ≡ outcome (measured_list measure.now.limit (image_in measure.now.sender) step.now.task.size no_block elements.now (measured measure.now.limit (image_in measure.now.sender) (inside measure.now.plan.now step.now)) place at (pos count) size) }
+    ensures value { result ≡ outcome (measured_list measure.now.limit (image_in measure.now.sender)
+        step.now.task.size no_block elements.now
+        (measured measure.now.limit (image_in measure.now.sender)
+        (inside measure.now.plan.now step.now)) place at (pos count) size) }
     ensures bound { IfOk result (λ n. n < 2 ^ 32) }
 {
     if has_other_count(measure, at, u128::from(count), elements) {
@@ -245,9 +267,14 @@ fn measure_many(
     requires at_inside { at ≤ length measure.now.sender.bytes.now }
     requires size_small { size < 2 ^ 32 }
     requires counted { IsOriginThere (image_in measure.now.sender) at origin.now }
-    requires can { CanList measure.now.plan.now (image_in measure.now.sender) step.now elements.now at (length place) }
+    requires can { CanList measure.now.plan.now (image_in measure.now.sender) step.now elements.now
+        at (length place) }
     requires earlier { IsEarlier number step.now }
-    ensures value { result ≡ outcome (measured_list measure.now.limit (image_in measure.now.sender) step.now.task.size counted_block elements.now (measured measure.now.limit (image_in measure.now.sender) (inside measure.now.plan.now step.now)) place at (origin_number (image_in measure.now.sender) at origin.now) size) }
+    ensures value { result ≡ outcome (measured_list measure.now.limit (image_in measure.now.sender)
+        step.now.task.size counted_block elements.now
+        (measured measure.now.limit (image_in measure.now.sender)
+        (inside measure.now.plan.now step.now)) place at
+        (origin_number (image_in measure.now.sender) at origin.now) size) }
     ensures bound { IfOk result (λ n. n < 2 ^ 32) }
 {
     let wanted = number_from(&measure.sender, at, origin);
@@ -310,10 +337,15 @@ fn measure_run(
     requires known { number < length measure.now.plan.now.table }
     requires at_inside { at ≤ length measure.now.sender.bytes.now }
     requires size_small { size < 2 ^ 32 }
-    requires can { CanList measure.now.plan.now (image_in measure.now.sender) step.now elements.now at (length place.now) }
+    requires can { CanList measure.now.plan.now (image_in measure.now.sender) step.now elements.now
+        at (length place.now) }
     requires earlier { IsEarlier number step.now }
-    requires same_count { has_other_count (image_in measure.now.sender) at n elements.now.run ≡ false }
-    ensures value { result ≡ outcome (measured_run measure.now.limit (image_in measure.now.sender) step.now.task.size elements.now.part (measured measure.now.limit (image_in measure.now.sender) (inside measure.now.plan.now step.now)) place.now at elements.now.run n size) }
+    requires same_count { has_other_count (image_in measure.now.sender) at n elements.now.run
+        ≡ false }
+    ensures value { result ≡ outcome (measured_run measure.now.limit (image_in measure.now.sender)
+        step.now.task.size elements.now.part
+        (measured measure.now.limit (image_in measure.now.sender)
+        (inside measure.now.plan.now step.now)) place.now at elements.now.run n size) }
     ensures bound { IfOk result (λ n. n < 2 ^ 32) }
 {
     match &elements.run {
@@ -350,10 +382,13 @@ fn measure_elements(
     requires known { number < length measure.now.plan.now.table }
     requires at_inside { at ≤ length measure.now.sender.bytes.now }
     requires size_small { size < 2 ^ 32 }
-    requires can { CanElements measure.now.plan.now (image_in measure.now.sender) step.now part.now run.now at (length place.now) }
+    requires can { CanElements measure.now.plan.now (image_in measure.now.sender) step.now part.now
+        run.now at (length place.now) }
     requires earlier { IsEarlier number step.now }
     requires same_count { run_count (image_in measure.now.sender) at run.now ≡ n }
-    ensures value { result ≡ outcome (measured_run measure.now.limit (image_in measure.now.sender) step.now.task.size part.now (measured measure.now.limit (image_in measure.now.sender) (inside measure.now.plan.now step.now)) place.now at (Some run.now) n size) }
+    ensures value { result ≡ outcome (measured_run measure.now.limit (image_in measure.now.sender)
+        step.now.task.size part.now (measured measure.now.limit (image_in measure.now.sender)
+        (inside measure.now.plan.now step.now)) place.now at (Some run.now) n size) }
     ensures bound { IfOk result (λ n. n < 2 ^ 32) }
 {
     let start = start_of(&measure.sender, at, run);
@@ -381,9 +416,12 @@ fn measure_part(
     requires known { number < length measure.now.plan.now.table }
     requires s_inside { s ≤ length measure.now.sender.bytes.now }
     requires size_small { size < 2 ^ 32 }
-    requires can { CanPart measure.now.plan.now (image_in measure.now.sender) step.now part.now s (length place.now) }
+    requires can { CanPart measure.now.plan.now (image_in measure.now.sender) step.now part.now s
+        (length place.now) }
     requires earlier { IsEarlier number step.now }
-    ensures value { result ≡ outcome (measured_part measure.now.limit (image_in measure.now.sender) step.now.task.size part.now (measured measure.now.limit (image_in measure.now.sender) (inside measure.now.plan.now step.now)) (place.now ++ PlaceStep.Nth k ∷ []) s size) }
+    ensures value { result ≡ outcome (measured_part measure.now.limit (image_in measure.now.sender)
+        step.now.task.size part.now (measured measure.now.limit (image_in measure.now.sender)
+        (inside measure.now.plan.now step.now)) (place.now ++ PlaceStep.Nth k ∷ []) s size) }
     ensures bound { IfOk result (λ n. n < 2 ^ 32) }
 {
     let last = PlaceStep::Nth(k);

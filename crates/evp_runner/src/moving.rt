@@ -1,18 +1,22 @@
 //! Moving: the packed bytes of a record in the receiver's format.
 
-ghost use Rattle.std.specs.Prelude.{◌≡◌, ◌+◌, ◌*◌, ◌-◌, ◌^◌, ◌<◌, ◌≤◌, ◌<ℤ◌, ◌-ℤ◌, ◌+ℤ◌, ℕ, pos, List, length, IsTrue, Option, Some, None, option_map};
+ghost use Rattle.std.specs.Prelude.{◌≡◌, ◌+◌, ◌*◌, ◌-◌, ◌%◌, ◌^◌, ◌<◌, ◌≤◌, ◌<ℤ◌, ◌-ℤ◌, ◌+ℤ◌, ℕ};
+ghost use Rattle.std.specs.Prelude.{pos, List, length, IsTrue, Option, Some, None, option_map};
 ghost use Rattle.std.specs.Option.{option_copied};
 ghost use Rattle.evp_base.specs.Numbers.{digits, residue, is_width, is_size_of};
 ghost use Rattle.evp_format.specs.Bytes.{put_at, next_block};
 ghost use Rattle.evp_format.specs.Packing.{pack_text};
 ghost use Rattle.evp_plan.specs.declared.step.Op.{Op};
-ghost use Rattle.evp_plan.specs.Moving.{moved, moved_op, moved_part, moved_elements, moved_many, moved_count, moved_element, source_place, or_null};
+ghost use Rattle.evp_plan.specs.Moving.{moved, moved_op, moved_part, moved_elements, moved_many};
+ghost use Rattle.evp_plan.specs.Moving.{moved_count, moved_element, source_place, or_null};
 ghost use Rattle.evp_plan.specs.Planned.{machine_in};
 ghost use Rattle.evp_plan.specs.Program.{program_at};
 ghost use Rattle.evp_plan.specs.Ready.{IsTextBy, IsOriginThere};
 ghost use Rattle.evp_plan.specs.Standing.{text_by, ended, origin_number};
 ghost use Rattle.evp_runner.specs.Pieces.{block_of, IsPut};
-ghost use Rattle.evp_runner.specs.StepIn.{image_in, inside, IsEarlier, IsCountThere, IsElementThere, AreFew, IsTextSource, text_source, CanMove, CanMoveStep, CanMoveList, CanMovePart};
+ghost use Rattle.evp_runner.specs.StepIn.{image_in, inside, IsEarlier, IsCountThere};
+ghost use Rattle.evp_runner.specs.StepIn.{IsElementThere, AreFew, IsTextSource, text_source};
+ghost use Rattle.evp_runner.specs.StepIn.{CanMove, CanMoveStep, CanMoveList, CanMovePart};
 
 use crate::reading::{block_there, count_from, count_of, number_from, number_there, start_of};
 use crate::sender::Sender;
@@ -56,6 +60,14 @@ fn distance(number: i128) -> u128
     (-(number + 1)) as u128
 }
 
+// n modulo that; a division only where it is needed.
+fn remainder(n: u128, modulus: u128) -> u128
+    requires { 0 < modulus }
+    ensures { result ≡ n % modulus }
+{
+    if n < modulus { n } else { n % modulus }
+}
+
 // The number modulo 2^(8 size).
 fn low(number: i128, size: u32) -> u128
     requires { IsTrue (is_width size) }
@@ -64,9 +76,9 @@ fn low(number: i128, size: u32) -> u128
 {
     let modulus = modulus_of(size);
     if number >= 0 {
-        number as u128 % modulus
+        remainder(number as u128, modulus)
     } else {
-        modulus - 1 - distance(number) % modulus
+        modulus - 1 - remainder(distance(number), modulus)
     }
 }
 
@@ -85,7 +97,8 @@ fn put_digits(out: &mut [u8], t: usize, order: Order, size: u32, number: i128)
 // The pointer to the block at q, or 0.
 fn put_pointer(work: &Move, out: &mut [u8], t: usize, q: usize)
     requires inside { t + work.now.plan.now.pointer ≤ length out.old }
-    ensures { out.new ≡ put_at t (digits work.now.plan.now.order work.now.plan.now.pointer (pos q)) out.old }
+    ensures { out.new ≡ put_at t (digits work.now.plan.now.order work.now.plan.now.pointer (pos q))
+        out.old }
 {
     let size = u32::from(work.plan.pointer());
     put_digits(out, t, work.plan.order(), size, q as i128);
@@ -95,8 +108,10 @@ fn put_pointer(work: &Move, out: &mut [u8], t: usize, q: usize)
 fn move_text(work: &Move, s: Option<usize>, out: &mut [u8], t: usize, size: usize) -> usize
     requires there { IsTextSource (image_in work.now.sender) s }
     requires inside { t + work.now.plan.now.pointer ≤ length out.old }
-    requires fits { (pack_text (machine_in work.now.plan.now) t (text_source (image_in work.now.sender) s) size).size ≤ length out.old }
-    ensures { IsPut (pack_text (machine_in work.now.plan.now) t (text_source (image_in work.now.sender) s) size) result out.old out.new }
+    requires fits { (pack_text (machine_in work.now.plan.now) t (text_source (image_in work.now.sender) s)
+        size).size ≤ length out.old }
+    ensures { IsPut (pack_text (machine_in work.now.plan.now) t
+        (text_source (image_in work.now.sender) s) size) result out.old out.new }
 {
     let block = match s {
         None => None,
@@ -129,11 +144,18 @@ pub(crate) fn move_record(
 ) -> usize
     requires known { number < length work.now.plan.now.table }
     requires at_inside { at ≤ length work.now.sender.bytes.now }
-    requires can { CanMove work.now.plan.now (image_in work.now.sender) (program_at work.now.plan.now.table number) at t (length out.old) }
-    requires fits { (moved (image_in work.now.sender) (machine_in work.now.plan.now) (program_at work.now.plan.now.table number) at t size).size ≤ length out.old }
-    ensures { IsPut (moved (image_in work.now.sender) (machine_in work.now.plan.now) (program_at work.now.plan.now.table number) at t size) result out.old out.new }
+    requires can { CanMove work.now.plan.now (image_in work.now.sender)
+        (program_at work.now.plan.now.table number) at t (length out.old) }
+    requires fits { (moved (image_in work.now.sender) (machine_in work.now.plan.now)
+        (program_at work.now.plan.now.table number) at t size).size ≤ length out.old }
+    ensures { IsPut (moved (image_in work.now.sender) (machine_in work.now.plan.now)
+        (program_at work.now.plan.now.table number) at t size) result out.old out.new }
 {
     let steps = work.plan.table()[number].as_slice();
+    if let Some(moves) = work.plan.moves(number, work.sender.order) {
+        moves.run(out, t, work.sender.bytes, at);
+        return size;
+    }
     let mut size = size;
     for step in steps {
         size = move_step(work, number, step, at, out, t, size);
@@ -155,9 +177,17 @@ fn move_step(
     requires known { number < length work.now.plan.now.table }
     requires at_inside { at ≤ length work.now.sender.bytes.now }
     requires earlier { IsEarlier number step.now }
-    requires can { CanMoveStep work.now.plan.now (image_in work.now.sender) step.now at t (length out.old) }
-    requires fits { (moved_op (image_in work.now.sender) (machine_in work.now.plan.now) step.now.task.size step.now.task.op (moved (image_in work.now.sender) (machine_in work.now.plan.now) (inside work.now.plan.now step.now)) at (t + step.now.task.offset) size).size ≤ length out.old }
-    ensures { IsPut (moved_op (image_in work.now.sender) (machine_in work.now.plan.now) step.now.task.size step.now.task.op (moved (image_in work.now.sender) (machine_in work.now.plan.now) (inside work.now.plan.now step.now)) at (t + step.now.task.offset) size) result out.old out.new }
+    requires can { CanMoveStep work.now.plan.now (image_in work.now.sender) step.now at t
+        (length out.old) }
+    requires fits { (moved_op (image_in work.now.sender) (machine_in work.now.plan.now) step.now.task.size
+        step.now.task.op (moved (image_in work.now.sender) (machine_in work.now.plan.now)
+        (inside work.now.plan.now step.now)) at (t + step.now.task.offset) size).size ≤ length
+        out.old }
+    ensures { IsPut (moved_op (image_in work.now.sender) (machine_in work.now.plan.now)
+        step.now.task.size step.now.task.op
+        (moved (image_in work.now.sender) (machine_in work.now.plan.now)
+        (inside work.now.plan.now step.now)) at (t + step.now.task.offset) size) result out.old
+        out.new }
 {
     let t = t + step.task.offset as usize;
     match &step.task.op {
@@ -193,9 +223,12 @@ fn move_inside(
     requires known { number < length work.now.plan.now.table }
     requires s_inside { s ≤ length work.now.sender.bytes.now }
     requires earlier { IsEarlier number step.now }
-    requires can { CanMove work.now.plan.now (image_in work.now.sender) (inside work.now.plan.now step.now) s t (length out.old) }
-    requires fits { (moved (image_in work.now.sender) (machine_in work.now.plan.now) (inside work.now.plan.now step.now) s t size).size ≤ length out.old }
-    ensures { IsPut (moved (image_in work.now.sender) (machine_in work.now.plan.now) (inside work.now.plan.now step.now) s t size) result out.old out.new }
+    requires can { CanMove work.now.plan.now (image_in work.now.sender)
+        (inside work.now.plan.now step.now) s t (length out.old) }
+    requires fits { (moved (image_in work.now.sender) (machine_in work.now.plan.now)
+        (inside work.now.plan.now step.now) s t size).size ≤ length out.old }
+    ensures { IsPut (moved (image_in work.now.sender) (machine_in work.now.plan.now)
+        (inside work.now.plan.now step.now) s t size) result out.old out.new }
 {
     match step.inner {
         Some(inner) => move_record(work, inner as usize, s, out, t, size),
@@ -237,8 +270,14 @@ fn move_many(
     requires earlier { IsEarlier number step.now }
     requires can { CanMoveList work.now.plan.now (image_in work.now.sender) step.now elements.now at }
     requires inside { t + work.now.plan.now.pointer ≤ length out.old }
-    requires fits { (moved_op (image_in work.now.sender) (machine_in work.now.plan.now) step.now.task.size (Op.Many origin.now elements.now) (moved (image_in work.now.sender) (machine_in work.now.plan.now) (inside work.now.plan.now step.now)) at t size).size ≤ length out.old }
-    ensures { IsPut (moved_op (image_in work.now.sender) (machine_in work.now.plan.now) step.now.task.size (Op.Many origin.now elements.now) (moved (image_in work.now.sender) (machine_in work.now.plan.now) (inside work.now.plan.now step.now)) at t size) result out.old out.new }
+    requires fits { (moved_op (image_in work.now.sender) (machine_in work.now.plan.now) step.now.task.size
+        (Op.Many origin.now elements.now)
+        (moved (image_in work.now.sender) (machine_in work.now.plan.now)
+        (inside work.now.plan.now step.now)) at t size).size ≤ length out.old }
+    ensures { IsPut (moved_op (image_in work.now.sender) (machine_in work.now.plan.now)
+        step.now.task.size (Op.Many origin.now elements.now)
+        (moved (image_in work.now.sender) (machine_in work.now.plan.now)
+        (inside work.now.plan.now step.now)) at t size) result out.old out.new }
 {
     let wanted = count_from(&work.sender, at, origin);
     let n = moved_count(work, at, wanted, elements);
@@ -271,8 +310,17 @@ fn move_elements(
     requires can { CanMoveList work.now.plan.now (image_in work.now.sender) step.now elements.now at }
     requires few { AreFew (image_in work.now.sender) at n elements.now.run }
     requires room { base + n * step.now.task.size ≤ length out.old }
-    requires fits { (moved_elements (λ k. moved_element (image_in work.now.sender) (machine_in work.now.plan.now) step.now.task.size elements.now (moved (image_in work.now.sender) (machine_in work.now.plan.now) (inside work.now.plan.now step.now)) at k (base + k * step.now.task.size)) n 0 size).size ≤ length out.old }
-    ensures { IsPut (moved_elements (λ k. moved_element (image_in work.now.sender) (machine_in work.now.plan.now) step.now.task.size elements.now (moved (image_in work.now.sender) (machine_in work.now.plan.now) (inside work.now.plan.now step.now)) at k (base + k * step.now.task.size)) n 0 size) result out.old out.new }
+    requires fits { (moved_elements (λ k. moved_element (image_in work.now.sender)
+        (machine_in work.now.plan.now) step.now.task.size elements.now
+        (moved (image_in work.now.sender) (machine_in work.now.plan.now)
+        (inside work.now.plan.now step.now)) at k (base + k * step.now.task.size)) n 0 size).size ≤
+        length out.old }
+    ensures { IsPut
+        (moved_elements (λ k. moved_element (image_in work.now.sender)
+        (machine_in work.now.plan.now) step.now.task.size elements.now
+        (moved (image_in work.now.sender) (machine_in work.now.plan.now)
+        (inside work.now.plan.now step.now)) at k (base + k * step.now.task.size)) n 0 size) result
+        out.old out.new }
 {
     let mut size = size;
     for k in 0..n as usize {
@@ -311,8 +359,12 @@ fn move_part(
     requires earlier { IsEarlier number step.now }
     requires can { CanMovePart work.now.plan.now (image_in work.now.sender) step.now part.now source }
     requires room { t + step.now.task.size ≤ length out.old }
-    requires fits { (moved_part (image_in work.now.sender) (machine_in work.now.plan.now) step.now.task.size part.now (moved (image_in work.now.sender) (machine_in work.now.plan.now) (inside work.now.plan.now step.now)) source t size).size ≤ length out.old }
-    ensures { IsPut (moved_part (image_in work.now.sender) (machine_in work.now.plan.now) step.now.task.size part.now (moved (image_in work.now.sender) (machine_in work.now.plan.now) (inside work.now.plan.now step.now)) source t size) result out.old out.new }
+    requires fits { (moved_part (image_in work.now.sender) (machine_in work.now.plan.now) step.now.task.size
+        part.now (moved (image_in work.now.sender) (machine_in work.now.plan.now)
+        (inside work.now.plan.now step.now)) source t size).size ≤ length out.old }
+    ensures { IsPut (moved_part (image_in work.now.sender) (machine_in work.now.plan.now)
+        step.now.task.size part.now (moved (image_in work.now.sender) (machine_in work.now.plan.now)
+        (inside work.now.plan.now step.now)) source t size) result out.old out.new }
 {
     match part {
         Part::Number(_, from, width) => {

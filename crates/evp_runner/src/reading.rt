@@ -51,7 +51,7 @@ fn pointer_there(sender: &Sender, s: usize) -> usize
 }
 
 // How many bytes stand before the first zero byte, where there is one.
-#[tactic(auto, using(evp_record::proofs::Zeros::zeros))]
+#[tactic(auto, using(crate::proofs::Zeros::zeros))]
 fn zero_at(bytes: &[u8]) -> Option<usize>
     ensures value { result ≡ option_map length (until_zero bytes.now) }
     ensures within { IfSome result (λ n. n < length bytes.now) }

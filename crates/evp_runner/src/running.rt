@@ -1,6 +1,7 @@
 //! Running plans.
 
-ghost use Rattle.std.specs.Prelude.{◌≡◌, ◌*◌, ◌^◌, ◌<◌, ◌≤◌, IsTrue, length, replicate, IfOk, IfErr};
+ghost use Rattle.std.specs.Prelude.{◌≡◌, ◌*◌, ◌^◌, ◌<◌, ◌≤◌, IsTrue, length, replicate, IfOk};
+ghost use Rattle.std.specs.Prelude.{IfErr};
 ghost use Rattle.evp_base.specs.Numbers.{is_width};
 ghost use Rattle.evp_format.specs.Converting.{convert};
 ghost use Rattle.evp_format.specs.Layout.{Layout};
@@ -21,10 +22,12 @@ use evp_record::Checked;
 
 /// The packed size of a record in the receiver's format, in bytes, or the first fault with its
 /// place there: `Unfit` and `Large` exactly as the conversion has them. The plan is one for records
-/// of this format. Takes no memory. It calls itself once for each level of nested types, at most 16.
+/// of this format. Takes no memory. It calls itself once for each level of nested types, at most
+/// 16.
 pub fn measure(plan: &Plan, item: Checked, limit: u32) -> Result<u32, ConvertFault>
     requires { IsPlanFrom plan.now item.layout }
-    ensures value { (to : Layout) → StandsFor plan.now item.entry.layout to → result ≡ outcome (convert to (value_of item.entry) limit) }
+    ensures value { (to : Layout) → StandsFor plan.now item.entry.layout to
+        → result ≡ outcome (convert to (value_of item.entry) limit) }
     ensures size { IfOk result (λ size. IsSizeOf plan.now item.entry size) }
 {
     let _held = item.bytes();

@@ -10,24 +10,29 @@ use Rattle.evp_plan.specs.Planned.{Planned}
 use Rattle.evp_plan.specs.Standing.{element_place}
 use Rattle.evp_runner.specs.Outcome.{outcome}
 use Rattle.evp_runner.specs.StepIn.{image_in, inside}
-use Rattle.evp_runner.proofs.Measured.{found_steps, rest_made, element_made, made_next, made_fault, made_end, record_made, record_fault, can_each, at_index, own_index, can_part, element_next, element_fault, element_end, some_bytes}
+use Rattle.evp_runner.proofs.Measured.{found_steps, rest_made, element_made, made_next, made_fault, made_end, record_made, record_fault}
+use Rattle.evp_runner.proofs.Measured.{can_each, at_index, own_index, can_part, element_next, element_fault, element_end, some_bytes}
 use Rattle.evp_runner.proofs.measuring.+measure.Goals as goal
 
 pub measure_record-test_numbers-requires-clause-can : goal.measure_record-test_numbers-requires-clause-can
 measure_record-test_numbers-requires-clause-can t c =
     let plan = c.args.measure.now.plan.now in
     let steps = c.as_slice-steps.result.now in
-    let found = found_steps plan c.args.number c.table.result.now c.index-table-number.result steps c.table.ensures.value c.requires.known c.index-table-number.is c.as_slice-steps.ensures in
-    can_each plan (image_in c.args.measure.now.sender) c.args.number steps c.args.at (length c.args.place.now) c.table.ensures.ordered found c.requires.can
+    let found = found_steps plan c.args.number c.table.result.now c.index-table-number.result steps c.table.ensures.value c.requires.known
+    c.index-table-number.is c.as_slice-steps.ensures in
+    can_each plan (image_in c.args.measure.now.sender) c.args.number steps c.args.at (length c.args.place.now) c.table.ensures.ordered found
+    c.requires.can
 
 pub measure_record-returns-in_err-test_numbers-clause-value : goal.measure_record-returns-in_err-test_numbers-clause-value
 measure_record-returns-in_err-test_numbers-clause-value t c =
     let p = err_from_is_err_and c.from_residual.result c.from_residual.ensures.1 in
     let plan = c.args.measure.now.plan.now in
     let steps = c.as_slice-steps.result.now in
-    let found = found_steps plan c.args.number c.table.result.now c.index-table-number.result steps c.table.ensures.value c.requires.known c.index-table-number.is c.as_slice-steps.ensures in
+    let found = found_steps plan c.args.number c.table.result.now c.index-table-number.result steps c.table.ensures.value c.requires.known
+    c.index-table-number.is c.as_slice-steps.ensures in
     let whole =
-    record_fault plan c.args.measure.now.limit (image_in c.args.measure.now.sender) c.args.place.now c.args.at c.args.number steps c.args.size c.in_err-test_numbers.field-0.0 c.table.ensures.ordered found
+    record_fault plan c.args.measure.now.limit (image_in c.args.measure.now.sender) c.args.place.now c.args.at c.args.number steps
+    c.args.size c.in_err-test_numbers.field-0.0 c.table.ensures.ordered found
     (sym c.in_err-test_numbers.ensures) in
     rw (p.1, p.2) (sym whole)
 
@@ -36,12 +41,23 @@ measure_record-measure_step-requires t c =
     let plan = c.args.measure.now.plan.now in
     let steps = c.as_slice-steps.result.now in
     let k = c.loop-step.step-index in
-    let found = found_steps plan c.args.number c.table.result.now c.index-table-number.result steps c.table.ensures.value c.requires.known c.index-table-number.is c.as_slice-steps.ensures in
-    let can = can_each plan (image_in c.args.measure.now.sender) c.args.number steps c.args.at (length c.args.place.now) c.table.ensures.ordered found c.requires.can in (
+    let found = found_steps plan c.args.number c.table.result.now c.index-table-number.result steps c.table.ensures.value c.requires.known
+    c.index-table-number.is c.as_slice-steps.ensures in
+    let can = can_each plan (image_in c.args.measure.now.sender) c.args.number steps c.args.at (length c.args.place.now)
+    c.table.ensures.ordered found c.requires.can in (
       omega arith,
       (
         c.requires.known,
-        (c.requires.at_inside, (c.loop-step.invariant.0, (can k _ (at_index steps k _ c.loop-step-test.true), λ m is. c.table.ensures.ordered c.args.number k m steps _ found (at_index steps k _ c.loop-step-test.true) is))),
+        (
+          c.requires.at_inside,
+          (
+            c.loop-step.invariant.0,
+            (
+              can k _ (at_index steps k _ c.loop-step-test.true),
+              λ m is. c.table.ensures.ordered c.args.number k m steps _ found (at_index steps k _ c.loop-step-test.true) is,
+            ),
+          ),
+        ),
       ),
     )
 
@@ -54,10 +70,13 @@ measure_record-returns-in_err-size-clause-value t c =
     let place = c.args.place.now in
     let steps = c.as_slice-steps.result.now in
     let k = c.loop-step.step-index in
-    let found = found_steps plan c.args.number c.table.result.now c.index-table-number.result steps c.table.ensures.value c.requires.known c.index-table-number.is c.as_slice-steps.ensures in
-    let made = record_made plan limit image place c.args.at c.args.number steps c.args.size c.table.ensures.ordered found (sym c.in_ok-test_numbers.ensures) in
+    let found = found_steps plan c.args.number c.table.result.now c.index-table-number.result steps c.table.ensures.value c.requires.known
+    c.index-table-number.is c.as_slice-steps.ensures in
+    let made = record_made plan limit image place c.args.at c.args.number steps c.args.size c.table.ensures.ordered found
+    (sym c.in_ok-test_numbers.ensures) in
     let fault =
-    made_fault plan limit image place c.args.at steps k _ c.loop-step.size c.in_err-size.field-0.0 (rest_made plan limit image place c.args.at steps c.args.size) (own_index steps k _ c.loop-step-test.true) c.loop-step-test.true
+    made_fault plan limit image place c.args.at steps k _ c.loop-step.size c.in_err-size.field-0.0
+    (rest_made plan limit image place c.args.at steps c.args.size) (own_index steps k _ c.loop-step-test.true) c.loop-step-test.true
     (sym c.in_err-size.ensures.value) c.loop-step.invariant.1 in
     rw (p.1, p.2) (sym (ap outcome made ∙ fault))
 
@@ -68,9 +87,12 @@ measure_record-returns-clause-value t c =
     let image = image_in c.args.measure.now.sender in
     let place = c.args.place.now in
     let steps = c.as_slice-steps.result.now in
-    let found = found_steps plan c.args.number c.table.result.now c.index-table-number.result steps c.table.ensures.value c.requires.known c.index-table-number.is c.as_slice-steps.ensures in
-    let made = record_made plan limit image place c.args.at c.args.number steps c.args.size c.table.ensures.ordered found (sym c.in_ok-test_numbers.ensures) in
-    made_end plan limit image place c.args.at steps c.loop-step.step-index c.loop-step.size (rest_made plan limit image place c.args.at steps c.args.size) c.loop-step-test.false c.loop-step.invariant.1
+    let found = found_steps plan c.args.number c.table.result.now c.index-table-number.result steps c.table.ensures.value c.requires.known
+    c.index-table-number.is c.as_slice-steps.ensures in
+    let made = record_made plan limit image place c.args.at c.args.number steps c.args.size c.table.ensures.ordered found
+    (sym c.in_ok-test_numbers.ensures) in
+    made_end plan limit image place c.args.at steps c.loop-step.step-index c.loop-step.size
+    (rest_made plan limit image place c.args.at steps c.args.size) c.loop-step-test.false c.loop-step.invariant.1
     ∙ sym (ap outcome made)
 
 pub measure_record-loop-step-preserved : goal.measure_record-loop-step-preserved
@@ -82,7 +104,8 @@ measure_record-loop-step-preserved t c =
     let steps = c.as_slice-steps.result.now in
     let k = c.loop-step.step-index in (
       c.in_ok-size.ensures.bound,
-      made_next plan limit image place c.args.at steps k _ c.loop-step.size c.in_ok-size.size (rest_made plan limit image place c.args.at steps c.args.size) (own_index steps k _ c.loop-step-test.true) c.loop-step-test.true
+      made_next plan limit image place c.args.at steps k _ c.loop-step.size c.in_ok-size.size
+          (rest_made plan limit image place c.args.at steps c.args.size) (own_index steps k _ c.loop-step-test.true) c.loop-step-test.true
           (sym c.in_ok-size.ensures.value) c.loop-step.invariant.1,
     )
 
@@ -91,7 +114,8 @@ measure_elements-measure_part-requires t c =
     let k = c.loop-k.k in
     let stands = ap (λ (start : ℕ). start + k * c.args.run.now.stride) c.start_of-start.ensures in
     let low =
-    can_part c.args.measure.now.plan.now (image_in c.args.measure.now.sender) c.args.step.now c.args.part.now c.args.run.now c.args.at (length c.args.place.now) c.args.n k (c.start_of-start.result + k * c.args.run.now.stride)
+    can_part c.args.measure.now.plan.now (image_in c.args.measure.now.sender) c.args.step.now c.args.part.now c.args.run.now c.args.at
+    (length c.args.place.now) c.args.n k (c.start_of-start.result + k * c.args.run.now.stride)
     c.requires.can c.requires.same_count c.loop-k-test.true stands in
     (omega arith, (c.requires.known, (low.0, (c.loop-k.invariant.0, (low.1, c.requires.earlier)))))
 
@@ -104,7 +128,9 @@ measure_elements-loop-k-preserved t c =
     let one = element_made plan limit image c.args.step.now c.args.part.now c.args.place.now c.args.at c.args.run.now in
     let stands = ap (λ (start : ℕ). start + k * c.args.run.now.stride) c.start_of-start.ensures in
     let at_place : ℕ → Made (Unit {0}) = λ s.
-    measured_part limit image c.args.step.now.task.size c.args.part.now (λ place' s' later. measured limit image (inside plan c.args.step.now) place' s' later) (c.args.place.now ++ Nth k ∷ []) s c.loop-k.size in (
+    measured_part limit image c.args.step.now.task.size c.args.part.now
+    (λ place' s' later. measured limit image (inside plan c.args.step.now) place' s' later) (c.args.place.now ++ Nth k ∷ []) s
+    c.loop-k.size in (
       c.in_ok-size.ensures.bound,
       element_next one c.args.n k c.loop-k.size c.in_ok-size.size (measured_elements one c.args.n 0 c.args.size) c.loop-k-test.true
           (sym (ap (λ (s : ℕ). outcome (at_place s)) stands) ∙ sym c.in_ok-size.ensures.value) c.loop-k.invariant.1,
@@ -120,7 +146,9 @@ measure_elements-returns-in_err-size-clause-value t c =
     let one = element_made plan limit image c.args.step.now c.args.part.now c.args.place.now c.args.at c.args.run.now in
     let stands = ap (λ (start : ℕ). start + k * c.args.run.now.stride) c.start_of-start.ensures in
     let at_place : ℕ → Made (Unit {0}) = λ s.
-    measured_part limit image c.args.step.now.task.size c.args.part.now (λ place' s' later. measured limit image (inside plan c.args.step.now) place' s' later) (c.args.place.now ++ Nth k ∷ []) s c.loop-k.size in
+    measured_part limit image c.args.step.now.task.size c.args.part.now
+    (λ place' s' later. measured limit image (inside plan c.args.step.now) place' s' later) (c.args.place.now ++ Nth k ∷ []) s
+    c.loop-k.size in
     let fault =
     element_fault one c.args.n k c.loop-k.size c.in_err-size.field-0.0 (measured_elements one c.args.n 0 c.args.size) c.loop-k-test.true
     (sym (ap (λ (s : ℕ). outcome (at_place s)) stands) ∙ sym c.in_err-size.ensures.value) c.loop-k.invariant.1 in
@@ -129,12 +157,15 @@ measure_elements-returns-in_err-size-clause-value t c =
 pub measure_elements-returns-clause-value : goal.measure_elements-returns-clause-value
 measure_elements-returns-clause-value t c =
     let one =
-    element_made c.args.measure.now.plan.now c.args.measure.now.limit (image_in c.args.measure.now.sender) c.args.step.now c.args.part.now c.args.place.now c.args.at c.args.run.now in
-    element_end one c.args.n c.loop-k.k c.loop-k.size (measured_elements one c.args.n 0 c.args.size) c.loop-k-test.false c.loop-k.invariant.1
+    element_made c.args.measure.now.plan.now c.args.measure.now.limit (image_in c.args.measure.now.sender) c.args.step.now c.args.part.now
+    c.args.place.now c.args.at c.args.run.now in
+    element_end one c.args.n c.loop-k.k c.loop-k.size (measured_elements one c.args.n 0 c.args.size) c.loop-k-test.false
+    c.loop-k.invariant.1
 
 pub measure_many-take_elements-requires-clause-some : goal.measure_many-take_elements-requires-clause-some
 measure_many-take_elements-requires-clause-some t c =
-    some_bytes c.args.measure.now.plan.now.pointer c.args.step.now.task.size c.args.elements.now.part _ c.args.measure.now.wide c.requires.can.sound
+    some_bytes c.args.measure.now.plan.now.pointer c.args.step.now.task.size c.args.elements.now.part _ c.args.measure.now.wide
+    c.requires.can.sound
 
 pub measure_many-overflow_cast-wanted-in-Some : goal.measure_many-overflow_cast-wanted-in-Some
 measure_many-overflow_cast-wanted-in-Some t c = let few = c.in-Some.ensures.few in omega (arith, ints, few)

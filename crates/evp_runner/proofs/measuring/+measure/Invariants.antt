@@ -38,5 +38,7 @@ decreases-measure_elements l = 8 * l.number + 3
 abbrev pub invariant-measure_elements-loop-k : goal.invariant-measure_elements-loop-k
 invariant-measure_elements-loop-k l =
     (l.size < 2 ^ 32)
-    × (measured_elements (element_made l.measure.plan.now l.measure.limit (image_in l.measure.sender) l.step l.part l.place l.at l.run) (l.n - l.k) l.k l.size
-    ≡ measured_elements (element_made l.measure.plan.now l.measure.limit (image_in l.measure.sender) l.step l.part l.place l.at l.run) l.n 0 l.initial.size)
+    × (measured_elements (element_made l.measure.plan.now l.measure.limit (image_in l.measure.sender) l.step l.part l.place l.at l.run)
+    (l.n - l.k) l.k l.size
+    ≡ measured_elements (element_made l.measure.plan.now l.measure.limit (image_in l.measure.sender) l.step l.part l.place l.at l.run) l.n 0
+    l.initial.size)

@@ -25,9 +25,11 @@ decreases-move_inside l = 8 * l.number + 2
 
 abbrev pub invariant-move_record-loop-step : goal.invariant-move_record-loop-step
 invariant-move_record-loop-step l =
-    IsMoving (rest_moved l.work.plan.now (image_in l.work.sender) (drop l.step-index l.steps) l.at l.t l.size) (rest_moved l.work.plan.now (image_in l.work.sender) l.steps l.at l.t l.initial.size) l.out l.initial.out
+    IsMoving (rest_moved l.work.plan.now (image_in l.work.sender) (drop l.step-index l.steps) l.at l.t l.size)
+    (rest_moved l.work.plan.now (image_in l.work.sender) l.steps l.at l.t l.initial.size) l.out l.initial.out
 
 abbrev pub invariant-move_elements-loop-k : goal.invariant-move_elements-loop-k
 invariant-move_elements-loop-k l =
-    IsMoving (moved_elements (element_one l.work.plan.now (image_in l.work.sender) l.step l.elements l.at l.base) (l.n - l.k) l.k l.size) (list_moved l.work.plan.now (image_in l.work.sender) l.step l.elements l.at l.base l.n l.initial.size)
+    IsMoving (moved_elements (element_one l.work.plan.now (image_in l.work.sender) l.step l.elements l.at l.base) (l.n - l.k) l.k l.size)
+    (list_moved l.work.plan.now (image_in l.work.sender) l.step l.elements l.at l.base l.n l.initial.size)
     l.out l.initial.out

@@ -9,4 +9,6 @@ pub returns-else-number-ge0-clause-value : goal.returns-else-number-ge0-clause-v
 returns-else-number-ge0-clause-value c =
     let fits : SFits w128 c.args.number = search rules in
     let far = c.distance.ensures ∙ ap (λ (z : ℤ). pos 0 -ℤ (z +ℤ pos 1)) (to_z-of_z w128 c.args.number fits) in
-    ap (λ (m : ℕ). m - 1 - c.distance.result % m) c.modulus_of-modulus.ensures ∙ sym (residue-below c.args.number (2 ^ (8 * c.args.size)) c.distance.result (omega (arith, ints)) far)
+    ap (λ (r : ℕ). c.modulus_of-modulus.result - 1 - r) c.remainder-else-number-ge0.ensures
+    ∙ ap (λ (m : ℕ). m - 1 - c.distance.result % m) c.modulus_of-modulus.ensures
+    ∙ sym (residue-below c.args.number (2 ^ (8 * c.args.size)) c.distance.result (omega (arith, ints)) far)

@@ -5,5 +5,6 @@ use Rattle.evp_runner.proofs.running.measure_whole.Goals as goal
 
 pub measure_record-requires-clause-can : goal.measure_record-requires-clause-can
 measure_record-requires-clause-can c =
-    can_whole c.args.plan.now c.args.item.now c.requires.to (image_in c.sender_of-sender.result) (length c.table-lists.result.now - 1) (length c.root-place.result) c.requires.stands c.bytes-held.ensures.kept c.sender_of-sender.ensures
+    can_whole c.args.plan.now c.args.item.now c.requires.to (image_in c.sender_of-sender.result) (length c.table-lists.result.now - 1)
+    (length c.root-place.result) c.requires.stands c.bytes-held.ensures.kept c.sender_of-sender.ensures
     (ap (λ (n : ℕ). n - 1) (ap length c.table-lists.ensures.value)) (ap length c.root-place.ensures)

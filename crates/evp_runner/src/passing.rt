@@ -1,0 +1,89 @@
+//! Conversions into bytes of their own, and records that are lent where nothing is to be converted.
+
+ghost use Rattle.std.specs.Prelude.{◌≡◌, IfOk, IfErr};
+ghost use Rattle.evp_format.specs.Converting.{convert};
+ghost use Rattle.evp_format.specs.Layout.{Layout};
+ghost use Rattle.evp_plan.specs.Planned.{IsPlanFrom, StandsFor};
+ghost use Rattle.evp_record.specs.Record.{value_of};
+ghost use Rattle.evp_runner.specs.Running.{IsSizeOf, AtSize, IsConversion, IsPassed, IsRunFault};
+
+use crate::{RunFault, measure, run_into};
+use evp_plan::Plan;
+use evp_record::Checked;
+use std::alloc::{AllocError, Global};
+use std::borrow::CowSlice;
+
+/// The packed record of the receiver's format, in a buffer of its size: the conversion, packed.
+/// `Unfit` and `Large` with their place there exactly as the conversion has them, or `Memory`. The
+/// plan is one for records of this format.
+pub fn run(alloc: Global, plan: &Plan, item: Checked, limit: u32) -> Result<Vec<u8>, RunFault>
+    requires { IsPlanFrom plan.now item.layout }
+    ensures packed { IfOk result (λ bytes. (to : Layout) → StandsFor plan.now item.entry.layout to
+        → IsConversion item.entry to limit bytes.items) }
+    ensures fault { IfErr result (λ fault. (to : Layout) → StandsFor plan.now item.entry.layout to
+        → IsRunFault fault (convert to (value_of item.entry) limit)) }
+{
+    match measure(plan, item.copy(), limit) {
+        Ok(size) => Ok(packed(alloc, plan, item, size)?),
+        Err(fault) => Err(RunFault::from(fault)),
+    }
+}
+
+/// Bytes that have the converted value in the receiver's format: the record's own bytes, lent,
+/// exactly where the two formats are equal, else the packed record. `Unfit`, `Large` and `Memory`
+/// as `run` has them; so `Large` also where the formats are equal and the packed record would pass
+/// the limit. The plan is one for records of this format.
+pub fn pass<'a>(
+    alloc: Global,
+    plan: &Plan,
+    item: Checked<'a>,
+    limit: u32,
+) -> Result<CowSlice<'a, u8>, RunFault>
+    requires { IsPlanFrom plan.now item.layout }
+    ensures passed { IfOk result (λ bytes. (to : Layout) → StandsFor plan.now item.entry.layout to
+        → IsPassed item.entry to limit bytes) }
+    ensures fault { IfErr result (λ fault. (to : Layout) → StandsFor plan.now item.entry.layout to
+        → IsRunFault fault (convert to (value_of item.entry) limit)) }
+{
+    match measure(plan, item.copy(), limit) {
+        Ok(size) => {
+            let bytes = item.bytes();
+            Ok(handed_on(alloc, plan, item, bytes, size)?)
+        }
+        Err(fault) => Err(RunFault::from(fault)),
+    }
+}
+
+// The record's own bytes, lent, where the formats are equal, else its packed conversion of this
+// size.
+fn handed_on<'a>(
+    alloc: Global,
+    plan: &Plan,
+    item: Checked<'a>,
+    bytes: &'a [u8],
+    size: u32,
+) -> Result<CowSlice<'a, u8>, AllocError>
+    requires own { bytes.now ≡ item.bytes }
+    requires plan_from { IsPlanFrom plan.now item.layout }
+    requires size { IsSizeOf plan.now item size }
+    ensures { IfOk result (λ bytes. AtSize plan.now item.entry size (λ to limit.
+        IsPassed item.entry to limit bytes)) }
+{
+    let _types = item.format().types();
+    if plan.alike() {
+        return Ok(CowSlice::Borrowed(bytes));
+    }
+    Ok(CowSlice::Owned(packed(alloc, plan, item, size)?))
+}
+
+// The packed conversion, of this size.
+fn packed(alloc: Global, plan: &Plan, item: Checked, size: u32) -> Result<Vec<u8>, AllocError>
+    requires plan_from { IsPlanFrom plan.now item.layout }
+    requires size { IsSizeOf plan.now item size }
+    ensures { IfOk result (λ bytes. AtSize plan.now item.entry size (λ to limit.
+        IsConversion item.entry to limit bytes.items)) }
+{
+    let mut bytes = vec![in alloc; 0u8; size as usize]?;
+    run_into(plan, item, &mut bytes);
+    Ok(bytes)
+}

@@ -1,0 +1,10 @@
+//! Conversions by plans against the plain one.
+
+mod answers;
+mod bytes;
+mod kinds;
+mod lending;
+mod lengths;
+mod many;
+mod pairs;
+mod worked;

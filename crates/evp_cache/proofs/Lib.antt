@@ -1,0 +1,5 @@
+mod Entries
+mod Indexed
+mod Meetings
+mod Notes
+mod Rows

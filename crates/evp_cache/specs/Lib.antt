@@ -1,0 +1,4 @@
+pub mod Finding
+pub mod Known
+pub mod Met
+pub mod Places

@@ -1,0 +1,14 @@
+pub mod Accounts
+pub mod Carried
+pub mod Entries
+pub mod Flow
+pub mod Job
+pub mod JobShape
+pub mod Laws
+pub mod Parts
+pub mod Port
+pub mod Rounds
+pub mod Route
+pub mod Tallied
+pub mod Tally
+pub mod Through

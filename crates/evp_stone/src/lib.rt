@@ -1,0 +1,22 @@
+//! Jobs, and the actors that carry them: a source or a stone each.
+#![tactic(auto)]
+
+mod account;
+mod entry;
+mod job;
+mod laws;
+mod port;
+mod round;
+mod source;
+mod stone;
+#[cfg(test)]
+mod tests;
+
+pub use account::{Account, RoundAccount, RouteAccount};
+pub use entry::Entry;
+pub use job::{Job, JobParts};
+pub use laws::rounds_begin_the_whole;
+pub use port::Port;
+pub use round::{Round, Submitted};
+pub use source::{Records, Source};
+pub use stone::Stone;

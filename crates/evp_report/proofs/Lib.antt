@@ -1,0 +1,5 @@
+mod ElementsLeft
+mod Escapes
+mod FieldsLeft
+mod ReportExamples
+pub mod Passed

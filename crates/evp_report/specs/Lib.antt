@@ -1,0 +1,3 @@
+pub mod FieldText
+pub mod Passing
+pub mod Report

@@ -17,6 +17,7 @@ use Rattle.evp_file.specs.declared.frame.Frame.TheVariants.{Format, Record}
 use Rattle.evp_file.specs.File.{file_with, no_frames}
 use Rattle.evp_file.specs.Frames.{IsFirstKnown, IsFormat, IsItem, LeadTo}
 use Rattle.evp_file.specs.Laws.{HasId, FilesReadBack}
+use Rattle.evp_file.specs.Reading.{file_of}
 use Rattle.evp_file.specs.Whole.{IsFormatOf, IsRecordOf, IsWhole, IsWithin}
 use Rattle.evp_file.specs.Writing.{frames_of, written}
 use Rattle.evp_file.proofs.FilesRead.{file_again}
@@ -94,8 +95,10 @@ items_within known limit formats (item ∷ items) are within = (
       items are.1 within.1,
 )
 
-pub read_back_law : FilesReadBack
-read_back_law known limit file small ids differ whole within =
+-- what is written of a file is read as it, where its known formats are the first with their identifiers
+pub written_is_read : (known : List KnownFormat) (limit : ℕ) (file : RecordFile) → limit < 2 ^ 32 → Each (IsFormat known) file.formats
+    → IsWhole known file → All (IsWithin limit) file.items → file_of known limit (written known file) ≡ Ok file
+written_is_read known limit file small are whole within =
     let formats = file.formats in
     let items = file.items in
     let few_items = whole.few_items in
@@ -103,6 +106,10 @@ read_back_law known limit file small ids differ whole within =
     let behind = lead_items known limit formats [] items (omega (arith, few_items))
     (items_within known limit formats items (each_of_all (IsRecordOf known formats) items whole.each_item)
     (each_of_all (IsWithin limit) items within)) in
-    let lead = lead_formats known limit [] formats (map Record items) (file_with formats items) (omega (arith, few_formats))
-    (first_formats known formats ids differ (each_of_all (IsFormatOf known) formats whole.each_format)) behind in
+    let lead = lead_formats known limit [] formats (map Record items) (file_with formats items) (omega (arith, few_formats)) are behind in
     file_again known limit (written known file) file small (record { frames = frames_of file; admissible = lead; spelled = refl })
+
+pub read_back_law : FilesReadBack
+read_back_law known limit file small ids differ whole within =
+    written_is_read known limit file small
+    (first_formats known file.formats ids differ (each_of_all (IsFormatOf known) file.formats whole.each_format)) whole within

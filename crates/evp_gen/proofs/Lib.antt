@@ -1,0 +1,6 @@
+mod Examples
+pub mod Decimals
+pub mod Pushed
+pub mod SentLayouts
+pub mod SentRecords
+pub mod SentFiles

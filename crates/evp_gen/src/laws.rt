@@ -1,0 +1,9 @@
+//! The law of the files that are made. The function does nothing.
+
+ghost use Rattle.evp_gen.specs.Laws.{SentIsRead};
+
+/// Each sender's file of up to 20,000 records is read as its one format and its records, whatever
+/// formats are known, at each limit from 64 on.
+pub fn sent_is_read()
+    ensures { SentIsRead }
+{}

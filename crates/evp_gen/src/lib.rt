@@ -1,0 +1,16 @@
+//! Large inputs made of a number: a job, and the record files of its four senders.
+#![tactic(auto)]
+
+mod document;
+mod formats;
+mod laws;
+mod made;
+mod records;
+mod senders;
+mod stones;
+
+pub use laws::sent_is_read;
+pub use made::{Made, make};
+
+#[cfg(test)]
+mod tests;

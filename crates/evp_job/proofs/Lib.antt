@@ -1,0 +1,3 @@
+mod Examples
+pub mod Lowered
+pub mod EachFrom

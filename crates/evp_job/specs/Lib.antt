@@ -1,0 +1,11 @@
+pub mod FaultText
+pub mod Steps
+pub mod Forms
+pub mod Types
+pub mod TypeView
+pub mod Formats
+pub mod FormatView
+pub mod Sources
+pub mod SourceView
+pub mod Head
+pub mod HeadView

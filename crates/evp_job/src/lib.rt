@@ -1,0 +1,17 @@
+//! Job documents: the job that JSON states, or its first fault with its place.
+#![tactic(auto)]
+
+mod fault;
+mod formats;
+mod forms;
+mod head;
+mod members;
+mod sources;
+mod types;
+
+pub use fault::JobFault;
+pub use head::{JobHead, ReadJob, read_head};
+pub use sources::SourceText;
+
+#[cfg(test)]
+mod tests;

@@ -24,30 +24,43 @@ pub record JobRead (told : Option Files) (words : List (List ℕ)) (job : FirstJ
   pub is : IsFirstJob bytes job
 
 names_job : (files : Files) (words : List (List ℕ)) (job : FirstJob) → JobRead (Some files) words job → NamesJob files words job
-names_job files words job read = (read.name, read.run, some_and (λ bytes. IsFirstJob bytes job) (get files read.name) read.bytes read.held read.is)
+names_job files words job read = (
+  read.name,
+  read.run,
+  some_and (λ bytes. IsFirstJob bytes job) (get files read.name) read.bytes read.held
+      read.is,
+)
 
 -- a refusal at the job's file
-pub second_absent : (told later : Option Files) (words : List (List ℕ)) (job : FirstJob) (refusal : Refusal) → JobRead told words job → OnSome told (later ≡ told) → IsOfName job.file refusal
-    → IfSome later (λ files. IfAbsent (λ _. IsNone (get files job.file)) refusal) → IfSome told (λ files. IfAbsent (IsAbsentName files words) refusal)
+pub second_absent : (told later : Option Files) (words : List (List ℕ)) (job : FirstJob) (refusal : Refusal) → JobRead told words job
+    → OnSome told (later ≡ told) → IsOfName job.file refusal
+    → IfSome later (λ files. IfAbsent (λ _. IsNone (get files job.file)) refusal)
+    → IfSome told (λ files. IfAbsent (IsAbsentName files words) refusal)
 second_absent None later words job refusal read still name lacking = tt
 second_absent (Some files) later words job Words read still name lacking = tt
-second_absent (Some files) later words job (Absent file) read still name lacking = (inr (job, names_job files words job read, name), rw name (rw still at lacking))
+second_absent (Some files) later words job (Absent file) read still name lacking
+    = (inr (job, names_job files words job read, name), rw name (rw still at lacking))
 second_absent (Some files) later words job (Read file) read still name lacking = tt
 second_absent (Some files) later words job NotBuilt read still name lacking = tt
 second_absent (Some files) later words job Memory read still name lacking = tt
 
-pub second_failed : (told later : Option Files) (words : List (List ℕ)) (job : FirstJob) (refusal : Refusal) → JobRead told words job → OnSome told (later ≡ told) → IsOfName job.file refusal
-    → IfSome later (λ files. IfFailed (λ _. IsSome (get files job.file)) refusal) → IfSome told (λ files. IfFailed (IsHeldName files words) refusal)
+pub second_failed : (told later : Option Files) (words : List (List ℕ)) (job : FirstJob) (refusal : Refusal) → JobRead told words job
+    → OnSome told (later ≡ told) → IsOfName job.file refusal
+    → IfSome later (λ files. IfFailed (λ _. IsSome (get files job.file)) refusal)
+    → IfSome told (λ files. IfFailed (IsHeldName files words) refusal)
 second_failed None later words job refusal read still name there = tt
 second_failed (Some files) later words job Words read still name there = tt
 second_failed (Some files) later words job (Absent file) read still name there = tt
-second_failed (Some files) later words job (Read file) read still name there = (inr (job, names_job files words job read, name), rw name (rw still at there))
+second_failed (Some files) later words job (Read file) read still name there
+    = (inr (job, names_job files words job read, name), rw name (rw still at there))
 second_failed (Some files) later words job NotBuilt read still name there = tt
 second_failed (Some files) later words job Memory read still name there = tt
 
 -- the report of the job on its file
-pub told_report : (told later : Option Files) (words : List (List ℕ)) (job : FirstJob) (file : FirstFile) (bytes text : List ℕ) → JobRead told words job → OnSome told (later ≡ told)
-    → IfSome later (λ files. get files job.file ≡ Some bytes) → IsFirstFile bytes file → file.field ≡ job.field → job.submit ≤ length file.records → text ≡ report job file
+pub told_report : (told later : Option Files) (words : List (List ℕ)) (job : FirstJob) (file : FirstFile) (bytes text : List ℕ)
+    → JobRead told words job → OnSome told (later ≡ told)
+    → IfSome later (λ files. get files job.file ≡ Some bytes) → IsFirstFile bytes file → file.field ≡ job.field
+    → job.submit ≤ length file.records → text ≡ report job file
     → IfSome told (λ files. IsReport files words text)
 told_report None later words job file bytes text read still held is field enough report = tt
 told_report (Some files) later words job file bytes text read still held is field enough report = (

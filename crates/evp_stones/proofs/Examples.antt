@@ -5,10 +5,25 @@ use Rattle.evp_stones.specs.FirstFile.{FirstFile, file_bytes, big, description}
 use Rattle.evp_stones.specs.Report.{submitted}
 
 first_job : FirstJob
-first_job = record { format = codes "q"; profile = codes "be64"; record_type = codes "q"; field = codes "x"; source = codes "a"; file = codes "a.ndr"; submit = 1 }
+first_job = record {
+  format = codes "q";
+  profile = codes "be64";
+  record_type = codes "q";
+  field = codes "x";
+  source = codes "a";
+  file = codes "a.ndr";
+  submit = 1;
+}
 
 first_file : FirstFile
-first_file = record { pointer = 4; record_type = codes "p"; length_of_type = 4; field = codes "x"; offset = 0; records = (7 ∷ 0 ∷ 0 ∷ 0 ∷ []) ∷ [] }
+first_file = record {
+  pointer = 4;
+  record_type = codes "p";
+  length_of_type = 4;
+  field = codes "x";
+  offset = 0;
+  records = (7 ∷ 0 ∷ 0 ∷ 0 ∷ []) ∷ [];
+}
 
 bytes_of_file : file_bytes first_file ≡
     78 ∷ 68 ∷ 82 ∷ 49 ∷ 70 ∷ 0 ∷ 0 ∷ 0 ∷ 34

@@ -1,5 +1,6 @@
 -- What a sound file tells of its parts.
-use Rattle.std.proofs.Common.{◌≡◌, ℕ, ◌+◌, ◌<◌, ◌≤◌, ◌||◌, ◌&&◌, Bool, true, eqb, List, map, length, Vec, Global, All, refl, sym, ◌∙◌, arith}
+use Rattle.std.proofs.Common.{◌≡◌, ℕ, ◌+◌, ◌<◌, ◌≤◌, ◌||◌, ◌&&◌, Bool, true, eqb, List, map, length, Vec, Global, All, refl, sym, ◌∙◌}
+use Rattle.std.proofs.Common.{arith}
 use Rattle.std.specs.List.{list_all}
 use Rattle.std.proofs.lemmas.Bool.{and_parts, leb-true}
 use Rattle.std.proofs.lemmas.Bool.Decides.{nat_tests}
@@ -34,17 +35,22 @@ sound_parts file e =
     }
 
 -- the tests of the records, one by one
-record_lengths : (long : ℕ) (records : List (Vec ℕ Global)) → list_all (is_sound_record long) (map (λ bytes. bytes.items) records) ≡ true → All (λ piece. (long ≤ length piece.items) × (length piece.items ≤ 4096)) records
+record_lengths : (long : ℕ) (records : List (Vec ℕ Global)) → list_all (is_sound_record long) (map (λ bytes. bytes.items) records) ≡ true
+    → All (λ piece. (long ≤ length piece.items) × (length piece.items ≤ 4096)) records
 record_lengths long records e = λ k d h.
-    let t = and_parts _ _ (AllPass-from_list_all (λ piece. is_sound_record long piece.items) records (sym (all_of_map (is_sound_record long) (λ bytes. bytes.items) records) ∙ e) k d h) in
+    let t = and_parts _ _ (AllPass-from_list_all (λ piece. is_sound_record long piece.items) records
+    (sym (all_of_map (is_sound_record long) (λ bytes. bytes.items) records) ∙ e) k d h) in
     (leb-true _ _ t.0, leb-true _ _ t.1)
 
-pub records_short : (long : ℕ) (records : List (Vec ℕ Global)) → list_all (is_sound_record long) (map (λ bytes. bytes.items) records) ≡ true → All (λ piece. length piece.items ≤ 4096) records
+pub records_short : (long : ℕ) (records : List (Vec ℕ Global)) → list_all (is_sound_record long) (map (λ bytes. bytes.items) records) ≡ true
+    → All (λ piece. length piece.items ≤ 4096) records
 records_short long records e = λ k d h. (record_lengths long records e k d h).1
 
-pub records_room : (offset long : ℕ) (records : List (Vec ℕ Global)) → offset + 4 ≤ long → list_all (is_sound_record long) (map (λ bytes. bytes.items) records) ≡ true → All (λ piece. offset + 4 ≤ length piece.items) records
+pub records_room : (offset long : ℕ) (records : List (Vec ℕ Global)) → offset + 4 ≤ long
+    → list_all (is_sound_record long) (map (λ bytes. bytes.items) records) ≡ true → All (λ piece. offset + 4 ≤ length piece.items) records
 records_room offset long records room e = λ k d h. omega (arith, room, (record_lengths long records e k d h).0)
 
 -- the tests of a file together
-pub sound_from_tests : (pointer type_name length field room records : Bool) → pointer ≡ true → type_name ≡ true → length ≡ true → field ≡ true → room ≡ true → records ≡ true → (pointer && (type_name && (length && (field && (room && records))))) ≡ true
+pub sound_from_tests : (pointer type_name length field room records : Bool) → pointer ≡ true → type_name ≡ true → length ≡ true
+    → field ≡ true → room ≡ true → records ≡ true → (pointer && (type_name && (length && (field && (room && records))))) ≡ true
 sound_from_tests p t l f r s hp ht hl hf hr hs = rw (hp, ht, hl, hf, hr, hs) refl

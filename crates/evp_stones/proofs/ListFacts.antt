@@ -16,7 +16,8 @@ flat_map_of_map g f [] = refl
 flat_map_of_map g f (x ∷ xs) = ap (λ ys. g (f x) ++ ys) (flat_map_of_map g f xs)
 
 -- three items of a list of three are all of it
-pub three : {A B : Type 0} (f : A → B) (xs : List A) (a b c : A) → length xs ≡ 3 → a ≡ get_or xs 0 a → b ≡ get_or xs 1 b → c ≡ get_or xs 2 c → map f xs ≡ f a ∷ f b ∷ f c ∷ []
+pub three : {A B : Type 0} (f : A → B) (xs : List A) (a b c : A) → length xs ≡ 3 → a ≡ get_or xs 0 a → b ≡ get_or xs 1 b → c ≡ get_or xs 2 c
+    → map f xs ≡ f a ∷ f b ∷ f c ∷ []
 three f [] a b c e p q r = absurd (omega arith)
 three f (x ∷ []) a b c e p q r = absurd (omega arith)
 three f (x ∷ y ∷ []) a b c e p q r = absurd (omega arith)

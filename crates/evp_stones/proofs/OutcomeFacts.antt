@@ -1,5 +1,6 @@
 -- What stands written beside each status.
-use Rattle.std.proofs.Common.{◌≡◌, ℕ, List, ◌++◌, codes, Option, Some, None, IfSome, Result, Ok, Err, OnOk, OnErr, inl, inr, lit<, refl, arith, string_bytes}
+use Rattle.std.proofs.Common.{◌≡◌, ℕ, List, ◌++◌, codes, Option, Some, None, IfSome, Result, Ok, Err, OnOk, OnErr, inl, inr, lit<, refl}
+use Rattle.std.proofs.Common.{arith, string_bytes}
 use Rattle.std.specs.Io.KnownBytes.{Appends}
 use Rattle.evp_depot.specs.Counts.{Rose}
 use Rattle.evp_depot.specs.Files.{Files}
@@ -19,7 +20,8 @@ status_listed NotBuilt = (4, lit< tt, refl)
 status_listed Memory = (6, lit< tt, refl)
 
 -- what is true of the report, beside the report
-pub with_text : (told : Option Files) (words : List (List ℕ)) (text : List ℕ) (P : List ℕ → Type 0) → IfSome told (λ files. IsReport files words text) → P text → IfSome told (λ files. (t : List ℕ) × IsReport files words t × P t)
+pub with_text : (told : Option Files) (words : List (List ℕ)) (text : List ℕ) (P : List ℕ → Type 0)
+    → IfSome told (λ files. IsReport files words text) → P text → IfSome told (λ files. (t : List ℕ) × IsReport files words t × P t)
 with_text None words text P report p = tt
 with_text (Some files) words text P report p = (text, report, p)
 
@@ -33,19 +35,22 @@ pub record Sunk : Type 0 where
 abbrev pub Writes : Sunk → List ℕ → Type 0
 Writes sunk text = Wrote sunk.faults sunk.faults_after sunk.put sunk.put_after text
 
-pub wrote : {E : Type 0} (sunk : Sunk) (refusal : Refusal) (answer : Result (Unit {0}) E) → OnOk answer (Appends sunk.put sunk.put_after (refusal_line refusal)) → OnErr answer (Rose sunk.faults sunk.faults_after)
+pub wrote : {E : Type 0} (sunk : Sunk) (refusal : Refusal) (answer : Result (Unit {0}) E)
+    → OnOk answer (Appends sunk.put sunk.put_after (refusal_line refusal)) → OnErr answer (Rose sunk.faults sunk.faults_after)
     → OnErr answer (AppendsPart sunk.put sunk.put_after (refusal_line refusal)) → Writes sunk (refusal_text refusal)
 wrote sunk refusal (Ok done) all rose part = inl all
 wrote sunk refusal (Err fault) all rose part = inr (rose, part)
 
-pub words_line : (sunk : Sunk) (refusal : Refusal) → status_of refusal ≡ 1 → Writes sunk (refusal_text refusal) → Writes sunk (codes "words")
+pub words_line : (sunk : Sunk) (refusal : Refusal) → status_of refusal ≡ 1 → Writes sunk (refusal_text refusal)
+    → Writes sunk (codes "words")
 words_line sunk Words e w = w
 words_line sunk (Absent name) e w = absurd (omega (arith, e))
 words_line sunk (Read name) e w = absurd (omega (arith, e))
 words_line sunk NotBuilt e w = absurd (omega (arith, e))
 words_line sunk Memory e w = absurd (omega (arith, e))
 
-pub absent_line : (told : Option Files) (words : List (List ℕ)) (sunk : Sunk) (refusal : Refusal) → status_of refusal ≡ 2 → IfSome told (λ files. IfAbsent (IsAbsentName files words) refusal) → Writes sunk (refusal_text refusal)
+pub absent_line : (told : Option Files) (words : List (List ℕ)) (sunk : Sunk) (refusal : Refusal) → status_of refusal ≡ 2
+    → IfSome told (λ files. IfAbsent (IsAbsentName files words) refusal) → Writes sunk (refusal_text refusal)
     → (name : List ℕ) × IfSome told (λ files. IsAbsentName files words name) × Writes sunk (codes "absent " ++ quoted name)
 absent_line told words sunk Words e named w = absurd (omega (arith, e))
 absent_line told words sunk (Absent name) e named w = (string_bytes name, named, w)
@@ -53,7 +58,8 @@ absent_line told words sunk (Read name) e named w = absurd (omega (arith, e))
 absent_line told words sunk NotBuilt e named w = absurd (omega (arith, e))
 absent_line told words sunk Memory e named w = absurd (omega (arith, e))
 
-pub read_line : (told : Option Files) (words : List (List ℕ)) (sunk : Sunk) (refusal : Refusal) → status_of refusal ≡ 3 → IfSome told (λ files. IfFailed (IsHeldName files words) refusal) → Writes sunk (refusal_text refusal)
+pub read_line : (told : Option Files) (words : List (List ℕ)) (sunk : Sunk) (refusal : Refusal) → status_of refusal ≡ 3
+    → IfSome told (λ files. IfFailed (IsHeldName files words) refusal) → Writes sunk (refusal_text refusal)
     → (name : List ℕ) × IfSome told (λ files. IsHeldName files words name) × Writes sunk (codes "read " ++ quoted name)
 read_line told words sunk Words e named w = absurd (omega (arith, e))
 read_line told words sunk (Absent name) e named w = absurd (omega (arith, e))
@@ -61,14 +67,16 @@ read_line told words sunk (Read name) e named w = (string_bytes name, named, w)
 read_line told words sunk NotBuilt e named w = absurd (omega (arith, e))
 read_line told words sunk Memory e named w = absurd (omega (arith, e))
 
-pub job_line : (sunk : Sunk) (refusal : Refusal) → status_of refusal ≡ 6 → Writes sunk (refusal_text refusal) → Writes sunk (codes "job not built")
+pub job_line : (sunk : Sunk) (refusal : Refusal) → status_of refusal ≡ 6 → Writes sunk (refusal_text refusal)
+    → Writes sunk (codes "job not built")
 job_line sunk Words e w = absurd (omega (arith, e))
 job_line sunk (Absent name) e w = absurd (omega (arith, e))
 job_line sunk (Read name) e w = absurd (omega (arith, e))
 job_line sunk NotBuilt e w = w
 job_line sunk Memory e w = absurd (omega (arith, e))
 
-pub memory_line : (sunk : Sunk) (refusal : Refusal) → status_of refusal ≡ 9 → Writes sunk (refusal_text refusal) → Writes sunk (codes "memory")
+pub memory_line : (sunk : Sunk) (refusal : Refusal) → status_of refusal ≡ 9 → Writes sunk (refusal_text refusal)
+    → Writes sunk (codes "memory")
 memory_line sunk Words e w = absurd (omega (arith, e))
 memory_line sunk (Absent name) e w = absurd (omega (arith, e))
 memory_line sunk (Read name) e w = absurd (omega (arith, e))

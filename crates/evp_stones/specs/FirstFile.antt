@@ -1,6 +1,8 @@
--- A record file of the first form: one little endian format of one number field of 4 bytes, records of
+-- A record file of the first form: one little endian format of one number field of 4 bytes, records
+-- of
 -- it, and the end.
-use Rattle.std.specs.Prelude.{◌≡◌, ℕ, ◌+◌, ◌&&◌, ◌||◌, Bool, nat_le, nat_eq, List, [], ◌∷◌, ◌++◌, length, codes, IsTrue, pos}
+use Rattle.std.specs.Prelude.{◌≡◌, ℕ, ◌+◌, ◌&&◌, ◌||◌, Bool, nat_le, nat_eq, List, [], ◌∷◌, ◌++◌}
+use Rattle.std.specs.Prelude.{length, codes, IsTrue, pos}
 use Rattle.std.specs.List.{list_all, flat_map}
 use Rattle.evp_base.specs.Name.{is_name}
 use Rattle.evp_base.specs.Numbers.{digits}
@@ -41,13 +43,15 @@ file_bytes file =
 
 -- a record has the type's length at least, and 4096 bytes at most
 abbrev pub is_sound_record : ℕ → List ℕ → Bool
-is_sound_record length_of_type bytes = nat_le length_of_type (length bytes) && nat_le (length bytes) 4096
+is_sound_record length_of_type bytes = nat_le length_of_type (length bytes)
+    && nat_le (length bytes) 4096
 
 -- names and numbers are in form and in their limits, and each record has the type's length at least
 abbrev pub is_sound_file : FirstFile → Bool
 is_sound_file file =
     (nat_eq file.pointer 4 || nat_eq file.pointer 8) && (is_type_name file.record_type
-    && (nat_le file.length_of_type 65536 && (is_name file.field && (nat_le (file.offset + 4) file.length_of_type
+    && (nat_le file.length_of_type 65536
+    && (is_name file.field && (nat_le (file.offset + 4) file.length_of_type
     && list_all (is_sound_record file.length_of_type) file.records))))
 
 -- the bytes are this file

@@ -1,9 +1,11 @@
 -- A job document of the first form: one format of one number field, one source, one terminal, one
 -- round in which nothing is frozen.
-use Rattle.std.specs.Prelude.{◌≡◌, ℕ, ◌&&◌, Bool, not, nat_le, List, [], ◌∷◌, length, codes, IsTrue, Some, IsUtf8}
+use Rattle.std.specs.Prelude.{◌≡◌, ℕ, ◌&&◌, Bool, not, nat_le, List, [], ◌∷◌, length, codes, IsTrue}
+use Rattle.std.specs.Prelude.{Some, IsUtf8}
 use Rattle.std.specs.Str.{bytes_eq}
 use Rattle.std.specs.List.{list_any}
-use Rattle.serde_json.specs.Data.{Data, unsigned, number, string, array, object, no_items, item, no_members, member}
+use Rattle.serde_json.specs.Data.{Data, unsigned, number, string, array, object, no_items, item}
+use Rattle.serde_json.specs.Data.{no_members, member}
 use Rattle.serde_json.specs.Read.{read}
 use Rattle.evp_base.specs.Name.{is_name}
 
@@ -22,10 +24,12 @@ only value = array (item value no_items)
 
 -- the field, of 8 bytes
 abbrev pub field_value : List ℕ → Data
-field_value name = array (item (string name) (item (string (codes "integer")) (item (number (unsigned 8)) no_items)))
+field_value name = array
+    (item (string name) (item (string (codes "integer")) (item (number (unsigned 8)) no_items)))
 
 abbrev pub type_value : List ℕ → List ℕ → Data
-type_value name field = object (member (codes "fields") (only (field_value field)) (member (codes "name") (string name) no_members))
+type_value name field = object (member (codes "fields") (only (field_value field))
+    (member (codes "name") (string name) no_members))
 
 abbrev pub format_value : FirstJob → Data
 format_value job = object
@@ -60,20 +64,23 @@ job_value job = object
 -- a name that a record type may not have
 abbrev pub is_reserved : List ℕ → Bool
 is_reserved name = list_any (bytes_eq name)
-    (codes "integer" ∷ codes "unsigned" ∷ codes "char" ∷ codes "boolean" ∷ codes "enumeration" ∷ codes "string" ∷ codes "float" ∷ [])
+    (codes "integer" ∷ codes "unsigned" ∷ codes "char" ∷ codes "boolean" ∷ codes "enumeration"
+    ∷ codes "string" ∷ codes "float" ∷ [])
 
 -- a name that a record type may have
 abbrev pub is_type_name : List ℕ → Bool
 is_type_name name = is_name name && not (is_reserved name)
 
 abbrev pub is_profile : List ℕ → Bool
-is_profile name = list_any (bytes_eq name) (codes "le64" ∷ codes "le32" ∷ codes "be64" ∷ codes "be32" ∷ [])
+is_profile name = list_any (bytes_eq name) (codes "le64" ∷ codes "le32" ∷ codes "be64"
+    ∷ codes "be32" ∷ [])
 
 -- names and numbers are in form and in their limits
 abbrev pub is_sound_job : FirstJob → Bool
 is_sound_job job =
     is_name job.format && (is_profile job.profile && (is_type_name job.record_type
-    && (is_name job.field && (is_name job.source && (nat_le 1 (length job.file) && (nat_le (length job.file) 255
+    && (is_name job.field
+    && (is_name job.source && (nat_le 1 (length job.file) && (nat_le (length job.file) 255
     && nat_le job.submit 131072))))))
 
 -- the bytes are the text of this job

@@ -2,7 +2,8 @@
 use Rattle.std.specs.Prelude.{◌≡◌, ℕ, List, ◌++◌, codes, string_bytes, ⊤}
 use Rattle.evp_base.specs.Quoted.{quoted}
 use Rattle.evp_stones.specs.declared.refusal.Refusal.{Refusal}
-use Rattle.evp_stones.specs.declared.refusal.Refusal.TheVariants.{Words, Absent, Read, NotBuilt, Memory}
+use Rattle.evp_stones.specs.declared.refusal.Refusal.TheVariants.{Words, Absent, Read, NotBuilt}
+use Rattle.evp_stones.specs.declared.refusal.Refusal.TheVariants.{Memory}
 
 abbrev pub refusal_text : Refusal → List ℕ
 refusal_text Words = codes "words"

@@ -17,7 +17,8 @@ submitted job file = map (number_at file.offset) (take job.submit file.records)
 
 -- `#I {FIELD=N}`
 abbrev pub record_line : List ℕ → ℕ → ℤ → List ℕ
-record_line field index n = codes "#" ++ decimal index ++ codes " {" ++ field ++ codes "=" ++ signed_decimal n ++ codes "}\n"
+record_line field index n = codes "#" ++ decimal index ++ codes " {" ++ field ++ codes "="
+    ++ signed_decimal n ++ codes "}\n"
 
 -- a line for each number, the first at this index
 abbrev pub record_lines : List ℕ → ℕ → List ℤ → List ℕ
@@ -26,7 +27,9 @@ record_lines field index (n ∷ ns) = record_line field index n ++ record_lines 
 
 -- the route's line
 abbrev pub route_line : List ℕ → ℕ → List ℕ
-route_line source passed = source ++ codes ">0 passed " ++ decimal passed ++ codes " dropped 0 refused 0 held 0\n"
+route_line source passed = source ++ codes ">0 passed " ++ decimal passed
+    ++ codes " dropped 0 refused 0 held 0\n"
 
 abbrev pub report : FirstJob → FirstFile → List ℕ
-report job file = codes "round 0\n" ++ route_line job.source job.submit ++ record_lines job.field 0 (submitted job file)
+report job file = codes "round 0\n" ++ route_line job.source job.submit
+    ++ record_lines job.field 0 (submitted job file)

@@ -1,5 +1,6 @@
 //! What the words ask for, worked out before anything is written.
-ghost use Rattle.std.specs.Prelude.{◌≡◌, ◌≤◌, ◌^◌, ◌<◌, ◌↔◌, map, string_bytes, Some, IfOk, IfErr, IfSome, IsErrOf, IsNone, IsSome, OnSome};
+ghost use Rattle.std.specs.Prelude.{◌≡◌, ◌≤◌, ◌^◌, ◌<◌, ◌↔◌, map, string_bytes, Some, IfOk, IfErr};
+ghost use Rattle.std.specs.Prelude.{IfSome, IsErrOf, IsNone, IsSome, OnSome};
 ghost use Rattle.evp_depot.specs.Counts.{Rose};
 ghost use Rattle.evp_stones.specs.Words.{IsLine};
 ghost use Rattle.evp_stones.specs.Carried.{IsReport, IsAbsentName, IsHeldName};

@@ -7,8 +7,10 @@ use std::test::Fail;
 use std::thread::Threads;
 
 // A source of one number and a terminal that receives it, up to the rounds.
-const JOB: &str =
-    "{\"formats\":[{\"name\":\"q\",\"profile\":\"be64\",\"types\":[{\"name\":\"q\",\"fields\":[[\"x\",\"integer\",8]]}]}],\"sources\":[{\"name\":\"a\",\"file\":\"a.ndr\",\"stone\":0}],\"stones\":[{\"kind\":\"terminal\",\"format\":\"q\"}],\"rounds\":[";
+const JOB: &str = "{\"formats\":[{\"name\":\"q\",\"profile\":\"be64\",\"types\":[{\"name\":\"q\",\
+    \"fields\":[[\"x\",\"integer\",8]]}]}],\
+    \"sources\":[{\"name\":\"a\",\"file\":\"a.ndr\",\"stone\":0}],\
+    \"stones\":[{\"kind\":\"terminal\",\"format\":\"q\"}],\"rounds\":[";
 
 const ONE_RECORD: &str = "{\"submit\":[1],\"frozen\":[]}]}";
 

@@ -38,25 +38,30 @@ pub fn stones<R: Threads + Wait + Sync, D: Depot, K: Sink, G: Gate + Sync>(
     // The words are no line.
     ensures words { (result ≡ 1) ↔ ¬ IsLine (map string_bytes words.now) }
     ensures words_line { result ≡ 1
-        → Wrote (K.faults sink.old) (K.faults sink.new) (K.put sink.old) (K.put sink.new) (codes "words") }
+        → Wrote (K.faults sink.old) (K.faults sink.new) (K.put sink.old) (K.put sink.new)
+        (codes "words") }
 
     // A name isn't there.
     ensures absent { result ≡ 2 → Rose (D.misses depot.old) (D.misses depot.new) }
     ensures absent_line { result ≡ 2 → (name : List ℕ)
         × IfSome (D.held depot.old) (λ files. IsAbsentName files (map string_bytes words.now) name)
-        × Wrote (K.faults sink.old) (K.faults sink.new) (K.put sink.old) (K.put sink.new) (codes "absent " ++ quoted name) }
+        × Wrote (K.faults sink.old) (K.faults sink.new) (K.put sink.old) (K.put sink.new)
+        (codes "absent " ++ quoted name) }
 
     // A read failed.
     ensures read_failed { result ≡ 3 → Rose (D.faults depot.old) (D.faults depot.new) }
     ensures read_line { result ≡ 3 → (name : List ℕ)
         × IfSome (D.held depot.old) (λ files. IsHeldName files (map string_bytes words.now) name)
-        × Wrote (K.faults sink.old) (K.faults sink.new) (K.put sink.old) (K.put sink.new) (codes "read " ++ quoted name) }
+        × Wrote (K.faults sink.old) (K.faults sink.new) (K.put sink.old) (K.put sink.new)
+        (codes "read " ++ quoted name) }
 
     // The job isn't built, or memory was wanted.
     ensures job_line { result ≡ 6
-        → Wrote (K.faults sink.old) (K.faults sink.new) (K.put sink.old) (K.put sink.new) (codes "job not built") }
+        → Wrote (K.faults sink.old) (K.faults sink.new) (K.put sink.old) (K.put sink.new)
+        (codes "job not built") }
     ensures memory_line { result ≡ 9
-        → Wrote (K.faults sink.old) (K.faults sink.new) (K.put sink.old) (K.put sink.new) (codes "memory") }
+        → Wrote (K.faults sink.old) (K.faults sink.new) (K.put sink.old) (K.put sink.new)
+        (codes "memory") }
 {
     let _ = rt;
     let _ = gate;

@@ -1,8 +1,10 @@
 //! Record files of the first form.
-ghost use Rattle.std.specs.Prelude.{◌≡◌, ◌≤◌, ◌<◌, ◌^◌, ◌++◌, ◌∷◌, ◌+◌, ◌*◌, ◌⊎◌, ◌||◌, length, nat_eq, nat_le, All, IfOk, IfSome, IsTrue, OnOk, vec_len};
+ghost use Rattle.std.specs.Prelude.{◌≡◌, ◌≤◌, ◌<◌, ◌^◌, ◌++◌, ◌∷◌, ◌+◌, ◌*◌, ◌⊎◌, ◌||◌, length};
+ghost use Rattle.std.specs.Prelude.{nat_eq, nat_le, All, IfOk, IfSome, IsTrue, OnOk, vec_len};
 ghost use Rattle.std.specs.List.{list_all, flat_map};
 ghost use Rattle.evp_base.specs.Name.{is_name};
-ghost use Rattle.evp_stones.specs.FirstFile.{IsFirstFile, file_bytes, description, record_frame, is_sound_file, is_sound_record, big, counted};
+ghost use Rattle.evp_stones.specs.FirstFile.{IsFirstFile, file_bytes, description, record_frame};
+ghost use Rattle.evp_stones.specs.FirstFile.{is_sound_file, is_sound_record, big, counted};
 ghost use Rattle.evp_stones.specs.Shown.{file_of};
 
 use super::frames::Frames;

@@ -4,7 +4,9 @@ ghost use Rattle.serde_json.specs.Data.{depth};
 ghost use Rattle.serde_json.specs.Read.{max_depth};
 ghost use Rattle.evp_base.specs.Name.{is_name};
 ghost use Rattle.serde_json.specs.View.{view};
-ghost use Rattle.evp_stones.specs.FirstJob.{IsFirstJob, job_value, format_value, round_value, source_value, terminal_value, is_sound_job, is_profile, is_reserved, is_type_name};
+ghost use Rattle.evp_stones.specs.FirstJob.{IsFirstJob, job_value, format_value, round_value};
+ghost use Rattle.evp_stones.specs.FirstJob.{source_value, terminal_value, is_sound_job, is_profile};
+ghost use Rattle.evp_stones.specs.FirstJob.{is_reserved, is_type_name};
 ghost use Rattle.evp_stones.specs.Shown.{job_of};
 
 use evp_base::{Memory, Name};
@@ -91,7 +93,9 @@ fn document_of(alloc: Global, job: &FirstJob) -> Result<Value, AllocError>
     let round = round_of(alloc, job.submit)?;
     let source = source_of(alloc, job)?;
     let terminal = terminal_of(alloc, job.format.as_str())?;
-    json!(in alloc; {"formats": [format], "rounds": [round], "sources": [source], "stones": [terminal]})
+    json!(in alloc; {
+        "formats": [format], "rounds": [round], "sources": [source], "stones": [terminal]
+    })
 }
 
 // The round, in which nothing is frozen.

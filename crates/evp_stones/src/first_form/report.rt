@@ -1,5 +1,6 @@
 //! The report of a job of the first form.
-ghost use Rattle.std.specs.Prelude.{◌≡◌, ◌++◌, ◌≤◌, ◌+◌, length, map, take, All, IfOk, IsTrue, OnOk, string_bytes, vec_len};
+ghost use Rattle.std.specs.Prelude.{◌≡◌, ◌++◌, ◌≤◌, ◌+◌, length, map, take, All, IfOk, IsTrue};
+ghost use Rattle.std.specs.Prelude.{OnOk, string_bytes, vec_len};
 ghost use Rattle.evp_stones.specs.FirstFile.{is_sound_file};
 ghost use Rattle.evp_stones.specs.Report.{report, route_line, record_lines, record_line, number_at};
 ghost use Rattle.evp_stones.specs.Shown.{job_of, file_of};
@@ -37,7 +38,8 @@ pub fn report(alloc: Global, job: &FirstJob, file: &FirstFile) -> Result<String,
 
 // Appends the route's line.
 fn push_route(text: &mut String, source: &str, submit: u64) -> Result<(), AllocError>
-    ensures { OnOk result (string_bytes text.new ≡ string_bytes text.old ++ route_line source.now submit) }
+    ensures { OnOk result (string_bytes text.new ≡ string_bytes text.old
+        ++ route_line source.now submit) }
 {
     writeln!(
         text,
@@ -56,7 +58,8 @@ fn push_lines(
     requires enough { count ≤ length records.now }
     requires room { All (λ piece. offset + 4 ≤ length piece.items) records.now }
     ensures { OnOk result (string_bytes text.new ≡ string_bytes text.old
-        ++ record_lines field.now 0 (map (λ piece. number_at offset piece.items) (take count records.now))) }
+        ++ record_lines field.now 0
+        (map (λ piece. number_at offset piece.items) (take count records.now))) }
 {
     for index in 0..count {
         push_line(text, field, index, &records[index], offset)?;

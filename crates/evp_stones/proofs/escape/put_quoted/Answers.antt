@@ -20,7 +20,8 @@ returns-in_err-write_all-2 g c =
     let rest = flat_map escaped (drop (i + 1) bytes) ++ codes "\"" in
     let written = c.loop-byte.invariant in
     let shown : c.as_bytes.result.now ≡ here = search rules in
-    let put_here = Puts-after faults put old c.loop-byte.sink new front here _ written.faults written.put (rw shown at c.in_err-write_all-2.ensures) in
+    let put_here = Puts-after faults put old c.loop-byte.sink new front here _ written.faults written.put
+    (rw shown at c.in_err-write_all-2.ensures) in
     subst (λ text. Puts faults put old new text result) (quoted_at bytes i c.loop-byte-test.true)
     (Puts-before faults put old new (front ++ here) rest _ result refl c.from_residual-in_err-write_all-2.ensures.0 put_here)
 

@@ -12,5 +12,6 @@ returns c = λ passed.
     let length : leb file.length_of_type 65536 ≡ true = grind (arith, nat_tests, c.if-file-gt-LONGEST_TYPE.false) in
     let field = rw c.deref-2.ensures.value at (sym c.is_name.ensures ∙ c.if-not-is_name.false) in
     let records = rw c.deref-3.ensures.value at (sym c.are_sound.ensures ∙ passed) in
-    sound_from_tests _ _ _ _ _ _ (sym c.is_pointer_size.ensures ∙ c.if-not-is_pointer_size.false) type_name length field (sym c.has_room.ensures ∙ c.if-not-has_room.false)
+    sound_from_tests _ _ _ _ _ _ (sym c.is_pointer_size.ensures ∙ c.if-not-is_pointer_size.false) type_name length field
+    (sym c.has_room.ensures ∙ c.if-not-has_room.false)
     (all_of_map (is_sound_record file.length_of_type) (λ bytes. bytes.items) file.records.items ∙ records)

@@ -16,4 +16,6 @@ loop-index-preserved c =
     written
     ∙ ap (λ text. text ++ line) c.loop-index.invariant
     ∙ append_assoc (string_bytes c.args.text.now) so_far line
-    ∙ ap (λ lines. string_bytes c.args.text.now ++ lines) (sym (lines_more field offset index records piece (omega (arith, c.loop-index-test.true, c.requires.enough)) c.index-records-index.is))
+    ∙ ap (λ lines. string_bytes c.args.text.now ++ lines)
+    (sym (lines_more field offset index records piece (omega (arith, c.loop-index-test.true, c.requires.enough))
+    c.index-records-index.is))

@@ -17,4 +17,5 @@ returns c =
     let file = c.args.file.now in
     let lines = rw (c.as_str-2.ensures.value, c.deref.ensures.value) at c.in_ok-push_lines.ensures in
     let route = rw (c.as_str.ensures.value, c.in_ok-text.ensures.ok) at c.in_ok-push_route.ensures in
-    (rw route at lines) ∙ ap (λ ns. (codes "round 0\n" ++ route_line (string_bytes job.source) job.submit) ++ record_lines (string_bytes job.field) 0 ns) (sym (shown_numbers file.offset job.submit file.records.items))
+    (rw route at lines) ∙ ap (λ ns. (codes "round 0\n" ++ route_line (string_bytes job.source) job.submit)
+    ++ record_lines (string_bytes job.field) 0 ns) (sym (shown_numbers file.offset job.submit file.records.items))

@@ -6,7 +6,8 @@ use Rattle.evp_stones.proofs.refusal.Refusal.put_line.Goals as goal
 
 pub returns-in_err-write_all : goal.returns-in_err-write_all
 returns-in_err-write_all g c =
-    Puts-before g.K.Sink.faults g.K.Sink.put c.args.sink.now c.write_all.new.sink (codes "stones: ") (refusal_text c.args.self.now ++ codes "\n")
+    Puts-before g.K.Sink.faults g.K.Sink.put c.args.sink.now c.write_all.new.sink (codes "stones: ")
+    (refusal_text c.args.self.now ++ codes "\n")
     _ c.from_residual.result refl c.from_residual.ensures.0 c.in_err-write_all.ensures
 
 pub returns-in_err-put_text : goal.returns-in_err-put_text
@@ -24,6 +25,7 @@ returns g c =
     let text = refusal_text c.args.self.now in
     let first = c.in_ok-write_all.ensures in
     let second = c.in_ok-put_text.ensures in
-    let front = Appends-trans (put c.args.sink.now) (put c.write_all.new.sink) (put c.put_text.new.sink) (codes "stones: ") text first.all second.all in
+    let front = Appends-trans (put c.args.sink.now) (put c.write_all.new.sink) (put c.put_text.new.sink) (codes "stones: ") text first.all
+    second.all in
     Puts-after faults put c.args.sink.now c.put_text.new.sink c.write_all-2.new.sink (codes "stones: " ++ text) (codes "\n")
     c.write_all-2.result (omega (arith, first.faults, second.faults)) front c.write_all-2.ensures

@@ -1,30 +1,23 @@
 //! Checks of records of five fields, as senders of readings make them.
 
 use crate::checks::Checks;
-use crate::layout::{Field, declared, format_of};
 use crate::record_bytes::{align, push_text};
 use anyhow::Result;
-use evp_profile::Profile;
+use evp_plain::format_of;
 use std::alloc::{AllocError, Global};
 
-const FIELDS: [Field; 5] = [
-    ("id", "unsigned integer", 4),
-    ("x", "integer", 4),
-    ("tag", "string", 0),
-    ("n", "integer", 4),
-    ("v", "integer[n]", 2),
-];
+const READING: &str =
+    "le64 s{id unsigned integer 4, x integer 4, tag string, n integer 4, v integer[n] 2}";
 
 /// 256 records, each with a text of up to two digits or none, and with up to three numbers.
 pub fn generated(alloc: Global) -> Result<Checks> {
-    let types = vec![in alloc; declared(alloc, "s", &FIELDS)?]?;
     let mut records = Vec::with_capacity(alloc, 256)?;
     for id in 0..256u32 {
         records.push(record(alloc, id)?)?;
     }
     Ok(Checks {
         name: "check_generated",
-        format: format_of(alloc, Profile::Le64, &types)?,
+        format: format_of(alloc, READING)?,
         records,
     })
 }

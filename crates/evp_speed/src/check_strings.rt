@@ -1,52 +1,44 @@
 //! Checks of records of 1,000 strings of 4 to 20 letters.
 
-ghost use Rattle.std.specs.Prelude.{◌≤◌};
+ghost use Rattle.std.specs.Prelude.{◌≡◌, ◌+◌, ◌*◌, ◌/◌, ◌%◌};
 
 use crate::checks::Checks;
-use crate::layout::{Field, declared, field, format_of};
 use crate::record_bytes::push_text;
 use anyhow::Result;
-use evp_profile::{Profile, TypeDecl};
+use evp_plain::format_of;
 use std::alloc::{AllocError, Global};
 
 /// How many strings a record has.
 const STRINGS: u64 = 1_000;
 
-const LIST: [Field; 2] = [("n", "integer", 4), ("v", "string[n]", 0)];
-
 /// 8 records with a list of the strings.
 pub fn list(alloc: Global) -> Result<Checks> {
-    let types = vec![in alloc; declared(alloc, "t", &LIST)?]?;
     let mut head = Vec::new(alloc);
     head.extend_from_slice(&STRINGS.to_le_bytes())?;
     head.extend_from_slice(&16u64.to_le_bytes())?;
     Ok(Checks {
         name: "check_strings",
-        format: format_of(alloc, Profile::Le64, &types)?,
+        format: format_of(alloc, "le64 t{n integer 4, v string[n]}")?,
         records: records(alloc, &head)?,
     })
 }
 
 /// 8 records with a field for each of the strings.
 pub fn fields(alloc: Global) -> Result<Checks> {
-    let types = vec![in alloc; string_fields(alloc)?]?;
     Ok(Checks {
         name: "check_string_fields",
-        format: format_of(alloc, Profile::Le64, &types)?,
+        format: format_of(alloc, string_fields(alloc)?.as_str())?,
         records: records(alloc, &[])?,
     })
 }
 
-fn string_fields(alloc: Global) -> Result<TypeDecl, AllocError> {
-    let mut fields = Vec::with_capacity(alloc, STRINGS as usize)?;
-    for k in 0..STRINGS {
-        let name = format!(in alloc; "s{k}")?;
-        fields.push(field(alloc, name.as_str(), "string", 0)?)?;
+fn string_fields(alloc: Global) -> Result<String, AllocError> {
+    let mut text = String::from_str(alloc, "le64 t{s0 string")?;
+    for k in 1..STRINGS {
+        text.push_str(format!(in alloc; ", s{k} string")?.as_str())?;
     }
-    Ok(TypeDecl {
-        name: String::from_str(alloc, "t")?,
-        fields,
-    })
+    text.push_str("}")?;
+    Ok(text)
 }
 
 // Records of these bytes, the pointers of the strings, and the strings.
@@ -73,12 +65,14 @@ fn record(alloc: Global, head: &[u8]) -> Result<Vec<u8>, AllocError> {
 
 // The letters of a string.
 fn letters_of(number: u64) -> usize
-    ensures { result ≤ 20 }
+    ensures { result ≡ 4 + number % 17 }
 {
     4 + (number % 17) as usize
 }
 
 // The bytes of a string's block up to the next one: its letters, a zero, and zeros up to 8.
-fn block_of(number: u64) -> u64 {
+fn block_of(number: u64) -> u64
+    ensures { result ≡ ((4 + number % 17) / 8 + 1) * 8 }
+{
     (letters_of(number) as u64 / 8 + 1) * 8
 }

@@ -14,6 +14,10 @@ pub struct Checks {
 }
 
 impl Workload for Checks {
+    ghost use Rattle.std.specs.Prelude.{⊤};
+
+    ghost ready = { λ _. ⊤ };
+
     fn name(&self) -> &'static str {
         self.name
     }
@@ -22,11 +26,11 @@ impl Workload for Checks {
         self.records.len()
     }
 
-    fn pass(&mut self) -> u64 {
+    fn pass(&self, _out: &mut [u8]) -> u64 {
         count_legal(&self.format, &self.records, 0)
     }
 
-    fn compared(&mut self, alloc: Global) -> Result<String, AllocError> {
+    fn compared(&self, alloc: Global, _out: &mut [u8]) -> Result<String, AllocError> {
         let count = self.records.len();
         let whole = count_legal(&self.format, &self.records, 0);
         let cut = count_legal(&self.format, &self.records, 1);

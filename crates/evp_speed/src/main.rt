@@ -3,30 +3,40 @@
 //! nanoseconds, of many short batches.
 #![tactic(auto)]
 
+ghost use Rattle.std.specs.Prelude.{◌≡◌};
+ghost use Rattle.evp_plan.specs.Planned.{StandsFor};
+
 mod check_deep;
 mod check_generated;
 mod check_numbers;
 mod check_strings;
 mod checks;
-mod layout;
+mod conversion;
+mod conversions;
+mod convert_lists;
+mod convert_numbers;
+mod evaluation;
+mod expressions;
+mod random;
 mod record_bytes;
+mod several;
 mod timing;
 mod workload;
 
 use anyhow::Result;
+use conversion::{Method, Pair, Way, checked};
+use conversions::{Ready, Whole};
+use evaluation::Evaluation;
+use expressions::Expression;
 use std::env;
 use timing::best;
 use workload::Workload;
 
 fn main(rt: HostRuntime) -> Result<()> {
-    let alloc = rt.alloc();
     let timed = is_timed(&rt)?;
-    tell(&rt, timed, &mut check_numbers::twelve(alloc)?)?;
-    tell(&rt, timed, &mut check_numbers::thousand(alloc)?)?;
-    tell(&rt, timed, &mut check_generated::generated(alloc)?)?;
-    tell(&rt, timed, &mut check_strings::list(alloc)?)?;
-    tell(&rt, timed, &mut check_strings::fields(alloc)?)?;
-    tell(&rt, timed, &mut check_deep::deep(alloc)?)
+    tell_checks(&rt, timed)?;
+    tell_conversions(&rt, timed)?;
+    tell_expressions(&rt, timed)
 }
 
 // Whether the first word is `time`.
@@ -38,14 +48,120 @@ fn is_timed(rt: &HostRuntime) -> Result<bool> {
     )
 }
 
+fn tell_checks(rt: &HostRuntime, timed: bool) -> Result<()> {
+    let alloc = rt.alloc();
+    tell(rt, timed, &check_numbers::twelve(alloc)?)?;
+    tell(rt, timed, &check_numbers::thousand(alloc)?)?;
+    tell(rt, timed, &check_generated::generated(alloc)?)?;
+    tell(rt, timed, &check_strings::list(alloc)?)?;
+    tell(rt, timed, &check_strings::fields(alloc)?)?;
+    tell(rt, timed, &check_deep::deep(alloc)?)
+}
+
+fn tell_conversions(rt: &HostRuntime, timed: bool) -> Result<()> {
+    let alloc = rt.alloc();
+    let swapped = convert_numbers::swapped(alloc)?;
+    tell_ready(rt, timed, "A", Way::Into, &swapped)?;
+    tell_whole(rt, timed, "A_whole", Way::Own, &swapped)?;
+    let resized = convert_numbers::resized(alloc)?;
+    tell_ready(rt, timed, "B", Way::Into, &resized)?;
+    tell_whole(rt, timed, "B_whole", Way::Own, &resized)?;
+    let numbers = convert_lists::numbers(alloc)?;
+    tell_ready(rt, timed, "C", Way::Into, &numbers)?;
+    tell_whole(rt, timed, "C_whole", Way::Own, &numbers)?;
+    let texts = convert_lists::texts(alloc)?;
+    tell_whole(rt, timed, "D", Way::Into, &texts)?;
+    tell_whole(rt, timed, "D_whole", Way::Own, &texts)?;
+    let alike = convert_numbers::alike(alloc)?;
+    tell_ready(rt, timed, "E", Way::Lent, &alike)?;
+    tell_whole(rt, timed, "E_whole", Way::Lent, &alike)?;
+    let records = convert_lists::records(alloc)?;
+    tell_whole(rt, timed, "F", Way::Into, &records)?;
+    tell_whole(rt, timed, "F_whole", Way::Own, &records)
+}
+
+// Converts the pair's records, which are checked before.
+fn tell_ready(
+    rt: &HostRuntime,
+    timed: bool,
+    name: &'static str,
+    way: Way,
+    pair: &Pair,
+) -> Result<()>
+    requires { StandsFor pair.now.plan pair.now.from pair.now.to }
+{
+    let alloc = rt.alloc();
+    let ready = Ready {
+        name,
+        method: Method {
+            alloc,
+            way,
+            plan: &pair.plan,
+            from: &pair.from,
+            to: &pair.to,
+        },
+        items: checked(alloc, &pair.from, &pair.records)?,
+    };
+    tell(rt, timed, &ready)
+}
+
+// Checks and converts the pair's records.
+fn tell_whole(
+    rt: &HostRuntime,
+    timed: bool,
+    name: &'static str,
+    way: Way,
+    pair: &Pair,
+) -> Result<()>
+    requires { StandsFor pair.now.plan pair.now.from pair.now.to }
+{
+    let alloc = rt.alloc();
+    let whole = Whole {
+        name,
+        method: Method {
+            alloc,
+            way,
+            plan: &pair.plan,
+            from: &pair.from,
+            to: &pair.to,
+        },
+        records: &pair.records,
+    };
+    tell(rt, timed, &whole)
+}
+
+fn tell_expressions(rt: &HostRuntime, timed: bool) -> Result<()> {
+    let alloc = rt.alloc();
+    tell_values(rt, timed, "eval_test", &expressions::test(alloc)?)?;
+    tell_values(rt, timed, "eval_same", &expressions::same(alloc)?)?;
+    tell_values(rt, timed, "eval_list", &expressions::list(alloc)?)
+}
+
+// Evaluates the expression over its records, which are checked before.
+fn tell_values(rt: &HostRuntime, timed: bool, name: &'static str, made: &Expression) -> Result<()>
+    requires { made.now.bound.layout ≡ made.now.format }
+{
+    let evaluation = Evaluation {
+        name,
+        bound: &made.bound,
+        format: &made.format,
+        items: checked(rt.alloc(), &made.format, &made.records)?,
+    };
+    tell(rt, timed, &evaluation)
+}
+
 // Writes the workload's line.
-fn tell(rt: &HostRuntime, timed: bool, workload: &mut dyn Workload) -> Result<()> {
+fn tell<W: Workload>(rt: &HostRuntime, timed: bool, workload: &W) -> Result<()>
+    requires { W.ready workload.now }
+{
+    let alloc = rt.alloc();
     let name = workload.name();
+    let mut out = vec![in alloc; 0u8; 65_536]?;
     if timed {
-        let time = best(rt, workload)?;
+        let time = best(rt, workload, &mut out)?;
         println!(rt; "{name} {}.{:03}", time / 1000, time % 1000)?;
     } else {
-        let compared = workload.compared(rt.alloc())?;
+        let compared = workload.compared(alloc, &mut out)?;
         println!(rt; "{name}: {compared}")?;
     }
     Ok(())

@@ -1,10 +1,15 @@
-//! The blocks of a record, which begin at multiples of 8.
+//! The blocks of a record, which begin at multiples of 8, and its numbers.
 
 use std::alloc::AllocError;
 
 /// Zeros up to the next multiple of 8.
 pub fn align(bytes: &mut Vec<u8>) -> Result<(), AllocError> {
-    let length = bytes.len().checked_next_multiple_of(8);
+    align_to(bytes, 8)
+}
+
+/// Zeros up to the next multiple of this size.
+pub fn align_to(bytes: &mut Vec<u8>, size: usize) -> Result<(), AllocError> {
+    let length = bytes.len().checked_next_multiple_of(size.max(1));
     bytes.resize(length.unwrap_or(bytes.len()), 0)
 }
 
@@ -14,4 +19,10 @@ pub fn push_text(bytes: &mut Vec<u8>, text: &[u8]) -> Result<(), AllocError> {
     bytes.extend_from_slice(text)?;
     bytes.push(0)?;
     Ok(())
+}
+
+/// A number of this size, the least byte first, at the next multiple of its size.
+pub fn push_number(bytes: &mut Vec<u8>, size: usize, number: u64) -> Result<(), AllocError> {
+    align_to(bytes, size)?;
+    bytes.extend_from_slice(&number.to_le_bytes()[..size.min(8)])
 }

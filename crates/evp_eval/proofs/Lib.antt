@@ -14,3 +14,4 @@ mod Records
 mod Runs
 mod Sides
 mod Streams
+mod Waiting

@@ -7,6 +7,7 @@ mod bound;
 mod fault;
 mod instruction;
 mod machine;
+mod operands;
 mod reach;
 mod stack;
 

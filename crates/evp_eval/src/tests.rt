@@ -73,6 +73,19 @@ const NUMBERS: [(&str, &str); 37] = [
     ("a[1].k", "unknown at 5"),
 ];
 
+// What opens a level, so many levels around 1, and the value. A level has two, three or five
+// operands wait.
+const LEVELS: [(&str, usize, &str); 8] = [
+    ("1+1*(", 1, "2"),
+    ("1+1*(", 3, "4"),
+    ("1+1*(", 7, "8"),
+    ("1+1*(", 15, "16"),
+    ("1+1*(", 31, "32"),
+    ("1+1*(", 63, "64"),
+    ("1<1+1*(", 63, "1"),
+    ("0||1&&1<1+1*(", 63, "1"),
+];
+
 // A description, a record of it, an expression, and its value or fault.
 const RECORDS: [(&[u8], &[u8], &str, &str); 27] = [
     (TEXT, b"\0\0\0\0", "same(s,\"\")", "0"),
@@ -193,5 +206,18 @@ fn long_chains_and_deep_parentheses(rt: HostRuntime) -> Result<(), Fail> {
     nested.push_str(")".repeat(alloc, 60)?.as_str())?;
     let found = answer(alloc, LIST, LIST_RECORD, nested.as_str())?;
     assert_eq!(rt; found.as_str(), "62");
+    Ok(())
+}
+
+#[test]
+fn few_operands_and_many(rt: HostRuntime) -> Result<(), Fail> {
+    let alloc = rt.alloc();
+    for (opened, levels, want) in LEVELS {
+        let mut text = opened.repeat(alloc, levels)?;
+        text.push_str("1")?;
+        text.push_str(")".repeat(alloc, levels)?.as_str())?;
+        let found = answer(alloc, LIST, LIST_RECORD, text.as_str())?;
+        assert_eq!(rt; found.as_str(), want, "at {text}");
+    }
     Ok(())
 }

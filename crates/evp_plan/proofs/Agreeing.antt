@@ -1,11 +1,11 @@
 -- A conversion, and what steps find and write for it: how agreement of the parts makes agreement of the whole.
-use Rattle.std.proofs.Common.{◌≡◌, ℕ, zero, suc, ◌+◌, ◌*◌, Bool, true, false, nat_lt, List, [], ◌∷◌, ◌++◌, length, Option, Some, None, refl}
+use Rattle.std.proofs.Common.{◌≡◌, ℕ, ◌+◌, Bool, true, false, nat_lt, List, ◌++◌, length, Option, Some, None, refl}
 use Rattle.std.proofs.Common.{sym, ap, ◌∙◌, subst, arith}
 use Rattle.evp_format.specs.declared.place.PlaceStep.{PlaceStep}
 use Rattle.evp_format.specs.Bytes.{next_block}
-use Rattle.evp_format.specs.Converting.{Made, made, unfit, large, then_make, unless_unfit, unless_large, take_block, make_text}
+use Rattle.evp_format.specs.Converting.{Made, made, unfit, large, then_make, unless_unfit, unless_large, make_text}
 use Rattle.evp_format.specs.Datum.{Datum, num, null, text, list, rec}
-use Rattle.evp_format.specs.Packing.{Piece, Pieces, Machine, then_pack, pack_text}
+use Rattle.evp_format.specs.Packing.{Pieces, Machine, then_pack, pack_text}
 use Rattle.evp_plan.specs.Measuring.{sized}
 use Rattle.evp_plan.specs.Moving.{or_null}
 

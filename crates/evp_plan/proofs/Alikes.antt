@@ -3,7 +3,7 @@ use Rattle.std.proofs.Common.{◌≡◌, Bool, true, false, refl}
 use Rattle.evp_format.specs.declared.field.Shape.{Shape}
 use Rattle.evp_format.specs.declared.field.Shape.TheVariants.{One, Fixed, Counted}
 use Rattle.evp_format.specs.Class.{Content, shaped, content_in, same_content, same_class}
-use Rattle.evp_format.specs.Tree.{Part, number_part, text_part, tree_part}
+use Rattle.evp_format.specs.Tree.{Part}
 
 abbrev pub is_array : Shape → Bool
 is_array One = false

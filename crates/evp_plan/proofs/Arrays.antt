@@ -1,24 +1,24 @@
 -- Arrays: where their elements agree, the arrays do.
-use Rattle.std.proofs.Common.{◌≡◌, ℕ, zero, suc, ◌+◌, ◌*◌, ◌<◌, ◌≤◌, ℤ, pos, negsuc, Bool, true, false, not, nat_eq, nat_lt, min, List, []}
-use Rattle.std.proofs.Common.{◌∷◌, ◌++◌, length, Option, Some, None, refl, sym, ap, ◌∙◌, subst, arith}
+use Rattle.std.proofs.Common.{◌≡◌, ℕ, zero, suc, ◌+◌, ◌*◌, ℤ, pos, negsuc, Bool, false, not, nat_eq, nat_lt, min, List, []}
+use Rattle.std.proofs.Common.{◌∷◌, ◌++◌, Option, Some, None, refl, sym, ap, ◌∙◌, arith}
 use Rattle.std.specs.Prelude.{⊤}
 use Rattle.std.proofs.lemmas.Bool.Decides.{nat_tests}
 use Rattle.evp_format.specs.declared.field.Field.{Field}
 use Rattle.evp_format.specs.declared.field.Shape.{Shape}
-use Rattle.evp_format.specs.declared.field.Shape.TheVariants.{One, Fixed, Counted}
+use Rattle.evp_format.specs.declared.field.Shape.TheVariants.{Fixed, Counted}
 use Rattle.evp_format.specs.declared.place.PlaceStep.{PlaceStep}
 use Rattle.evp_format.specs.declared.place.PlaceStep.TheVariants.{Nth}
 use Rattle.evp_format.specs.Bytes.{next_block}
-use Rattle.evp_format.specs.Converting.{Made, made, unfit, large, then_make, unless_unfit, unless_large, take_block, make_elements}
+use Rattle.evp_format.specs.Converting.{Made, made, unfit, large, then_make, unless_unfit, make_elements}
 use Rattle.evp_format.specs.Converting.{make_or_zero, has_other_length, list_block, make_list, elements_of}
 use Rattle.evp_format.specs.Datum.{Datum, list, Elements, empty_list, element, copies, count_of}
-use Rattle.evp_format.specs.Packing.{Pieces, Machine, then_pack, one_piece, pointer_piece, pack_elements, pack_counted, listed}
+use Rattle.evp_format.specs.Packing.{Pieces, Machine, then_pack, pointer_piece, pack_elements, pack_counted, listed}
 use Rattle.evp_format.specs.Viewing.{Image}
 use Rattle.evp_format.specs.Zero.{as_count}
 use Rattle.evp_plan.specs.declared.step.Elements.{Elements as PlanElements}
 use Rattle.evp_plan.specs.declared.step.Part.{Part}
 use Rattle.evp_plan.specs.declared.step.Run.{Run}
-use Rattle.evp_plan.specs.Measuring.{sized, measured_part, measured_elements, measured_run, measured_list, has_other_count, no_block}
+use Rattle.evp_plan.specs.Measuring.{measured_part, measured_elements, measured_run, measured_list, has_other_count, no_block}
 use Rattle.evp_plan.specs.Measuring.{counted_block}
 use Rattle.evp_plan.specs.Moving.{moved_part, moved_elements, moved_element, moved_many, moved_count, source_place}
 use Rattle.evp_plan.specs.Standing.{run_count, element_place}

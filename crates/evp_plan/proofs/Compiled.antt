@@ -1,15 +1,14 @@
 -- The loops that compile steps into cells, and gathers too.
-use Rattle.std.proofs.Common.{◌≡◌, ℕ, zero, suc, ◌+◌, ◌-◌, ◌<◌, ◌≤◌, List, [], ◌∷◌, ◌++◌, length, take, get_or, set, refl, sym, ap, ◌∙◌}
+use Rattle.std.proofs.Common.{◌≡◌, ℕ, zero, suc, ◌+◌, ◌<◌, ◌≤◌, List, [], ◌∷◌, ◌++◌, length, take, get_or, set, refl, sym, ap, ◌∙◌}
 use Rattle.std.proofs.Common.{arith, add-one}
-use Rattle.std.specs.Prelude.{Bool, true, ◌||◌, nat_lt, nat_le, slice_get, Option, Some, None}
+use Rattle.std.specs.Prelude.{true, ◌||◌, nat_lt, nat_le}
 use Rattle.std.proofs.lemmas.Bool.Decides.{nat_tests}
 use Rattle.evp_wide.specs.Masks.{are_within}
 use Rattle.evp_plan.specs.Clean.{is_clean_byte, is_clean}
 use Rattle.std.proofs.lemmas.List.{take_more, take_all}
 use Rattle.evp_plan.specs.declared.cell.Cell.{Cell}
-use Rattle.evp_plan.specs.declared.cell.Cell.TheVariants.{Keep, Constant, Byte, Sign}
-use Rattle.evp_plan.specs.declared.gather.Gather.{Gather}
-use Rattle.evp_plan.specs.Cells.{over, laid_over, overlaid, bytes_from, resized, blend_cell, blend_cells, gather_cells}
+use Rattle.evp_plan.specs.declared.cell.Cell.TheVariants.{Keep, Byte}
+use Rattle.evp_plan.specs.Cells.{over, laid_over, overlaid, bytes_from, resized, blend_cell, blend_cells}
 use Rattle.evp_plan.proofs.Gathered.{length-blend_cells, clean_first}
 
 pub overlaid_none : (place : ℕ) (cells : List Cell) → cells ≡ overlaid place [] cells

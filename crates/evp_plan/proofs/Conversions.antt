@@ -1,6 +1,6 @@
 -- What the compiled steps find and write is the conversion, packed.
-use Rattle.std.proofs.Common.{◌≡◌, ℕ, zero, suc, ◌+◌, ◌*◌, ℤ, pos, negsuc, Bool, true, false, not, ◌&&◌, List, [], ◌∷◌, ◌++◌, length}
-use Rattle.std.proofs.Common.{Option, Some, None, refl, sym, ap, ◌∙◌, subst, arith}
+use Rattle.std.proofs.Common.{◌≡◌, ℕ, zero, suc, ◌+◌, ℤ, pos, Bool, true, false, not, List, [], ◌∷◌, ◌++◌, length}
+use Rattle.std.proofs.Common.{Option, Some, None, refl, sym, ap, ◌∙◌, subst}
 use Rattle.std.specs.Prelude.{slice_get, option_map, ⊤, if◌then◌else◌}
 use Rattle.evp_base.specs.declared.step.Step.{Step as PathStep}
 use Rattle.evp_base.specs.declared.step.Step.TheVariants as path
@@ -15,29 +15,27 @@ use Rattle.evp_format.specs.Bytes.{bytes_at}
 use Rattle.evp_format.specs.Class.{class_in, same_class, content_in}
 use Rattle.evp_format.specs.Clashing.{branch_named, first_of_two, clash_partners, clash_trees, clash_branches, clash_parts}
 use Rattle.evp_format.specs.Converting.{Made, made, unfit, large, then_make, unless_unfit, numbers_from, receiver_number, number_or_default}
-use Rattle.evp_format.specs.Converting.{number_fits, number_at, make_text, make_number, as_number, entries_of, elements_of, make_single}
+use Rattle.evp_format.specs.Converting.{number_fits, number_at, make_text, make_number, as_number, entries_of, elements_of}
 use Rattle.evp_format.specs.Converting.{make_shaped, make_tree, make_branches, make_part, make_list}
-use Rattle.evp_format.specs.Datum.{Datum, num, null, text, list, rec, Elements, empty_list, element, Entries, empty_record, entry, named}
+use Rattle.evp_format.specs.Datum.{Datum, num, rec, Elements, empty_list, element, Entries, empty_record, entry, named}
 use Rattle.evp_format.specs.LaidTree.{IsLaidTree, AreLaidBranches, IsLaidPart}
-use Rattle.evp_format.specs.Packing.{Pieces, Machine, one_piece, then_pack, pack_text, pack_tree, pack_branches, pack_part, pack_shaped}
+use Rattle.evp_format.specs.Packing.{Pieces, Machine, one_piece, pack_text, pack_tree, pack_branches, pack_part, pack_shaped}
 use Rattle.evp_format.specs.Packing.{pack_counted, listed}
 use Rattle.evp_format.specs.Tree.{Tree, tree, Branches, no_fields, branch, Part, number_part, text_part, tree_part, branch_at}
 use Rattle.evp_format.specs.Viewing.{Image}
 use Rattle.evp_format.specs.Zero.{zero_part, zero_tree}
-use Rattle.evp_plan.specs.declared.step.Elements.{Elements as PlanElements}
 use Rattle.evp_plan.specs.declared.step.Op.{Op}
 use Rattle.evp_plan.specs.declared.step.Op.TheVariants.{Many}
 use Rattle.evp_plan.specs.declared.step.Run.{Run}
-use Rattle.evp_plan.specs.Matching.{Content, numbers, texts, records, content_of, known_branches, known_named, number_origin, single_origin}
-use Rattle.evp_plan.specs.Matching.{wanted_origin, run_by, run_for, part_for, elements_for, offset_of, or_zero, op_for, task_for}
+use Rattle.evp_plan.specs.Matching.{Content, content_of, known_branches, known_named, number_origin, single_origin}
+use Rattle.evp_plan.specs.Matching.{wanted_origin, run_by, run_for, part_for, elements_for, offset_of, or_zero, op_for}
 use Rattle.evp_plan.specs.Matching.{inside_partner, compiled_tree, compiled, compiled_part}
 use Rattle.evp_plan.specs.Measuring.{sized, op_fits, tested, measured_part, measured_op, measured_steps, measured}
 use Rattle.evp_plan.specs.Moving.{moved_part, moved_op, moved, or_null}
-use Rattle.evp_plan.specs.Program.{Program, no_steps, performs}
-use Rattle.evp_plan.specs.Standing.{origin_number, text_by, text_there, element_place, run_count}
+use Rattle.evp_plan.specs.Standing.{origin_number, text_by, text_there, element_place}
 use Rattle.evp_plan.proofs.Alikes.{is_array, same_shape, same_part, alike_shapes}
 use Rattle.evp_plan.proofs.Agreeing.{Agrees, Agrees-unless_unfit, Agrees-map, Agrees-pair, Agrees-along, Agrees-text}
-use Rattle.evp_plan.proofs.Arrays.{EachMade, ZeroMade, AreGiven, Agrees-each, Agrees-many}
+use Rattle.evp_plan.proofs.Arrays.{EachMade, AreGiven, Agrees-each, Agrees-many}
 use Rattle.evp_plan.proofs.Defaults.{Continues, continues_at_start, continues_here, continues_behind, default_tree, no_clash_with_nothing}
 use Rattle.evp_plan.proofs.Sent.{PartSent, FieldSent, RecordSent, IsPartner, EachSent, ArraySent, nothing_sent, partner, known_of}
 use Rattle.evp_plan.proofs.Sent.{known_named-branches, slice_get-known, number_sent, text_sent, record_sent, single_sent, array_sent}

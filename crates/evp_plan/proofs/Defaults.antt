@@ -1,6 +1,6 @@
 -- A record without a partner is made of its defaults, and takes no block.
-use Rattle.std.proofs.Common.{◌≡◌, ℕ, zero, suc, ◌+◌, ◌≤ℤ◌, ℤ, pos, Bool, true, false, not, List, [], ◌∷◌, ◌++◌, length, Option, Some, None}
-use Rattle.std.proofs.Common.{refl, sym, ap, ◌∙◌, subst, arith, add-zero, ⊎_elim, ◌⊎◌, inl, inr}
+use Rattle.std.proofs.Common.{◌≡◌, ℕ, zero, suc, ◌+◌, ℤ, pos, Bool, true, false, not, List, [], ◌∷◌, ◌++◌, length, Option, Some, None}
+use Rattle.std.proofs.Common.{refl, sym, ap, ◌∙◌, subst, arith, ⊎_elim, ◌⊎◌, inl, inr}
 use Rattle.std.specs.Prelude.{slice_get, int_lt, ⊤}
 use Rattle.std.proofs.lemmas.Int.{ints}
 use Rattle.std.proofs.lemmas.Bool.Decides.{nat_tests}
@@ -13,14 +13,14 @@ use Rattle.evp_format.specs.declared.field.Shape.{Shape}
 use Rattle.evp_format.specs.declared.field.Shape.TheVariants.{One, Fixed, Counted}
 use Rattle.evp_format.specs.declared.place.PlaceStep.{PlaceStep}
 use Rattle.evp_format.specs.declared.place.PlaceStep.TheVariants.{At, Nth}
-use Rattle.evp_format.specs.Clashing.{clash_branches, first_of_two}
-use Rattle.evp_format.specs.Converting.{Made, made, unfit, large, then_make, unless_unfit, numbers_from, receiver_number, number_fits}
+use Rattle.evp_format.specs.Clashing.{clash_branches}
+use Rattle.evp_format.specs.Converting.{Made, made, then_make, unless_unfit, numbers_from, receiver_number, number_fits}
 use Rattle.evp_format.specs.Converting.{number_at, make_tree, make_branches, make_shaped, make_part, make_list, list_block}
-use Rattle.evp_format.specs.Datum.{Datum, num, null, list, rec, Entries, empty_record, entry, copies, empty_list}
+use Rattle.evp_format.specs.Datum.{Datum, num, list, rec, Entries, empty_record, entry, copies}
 use Rattle.evp_format.specs.LaidTree.{Matches, IsLaidRecord, IsLaidTree, AreLaidBranches, IsLaidPart}
 use Rattle.evp_format.specs.Tree.{Tree, tree, Branches, no_fields, branch, Part, number_part, text_part, tree_part, branch_at, fields_of}
 use Rattle.evp_format.specs.WellLaid.{StatesDefault, CountsElements, HasShape}
-use Rattle.evp_format.specs.Zero.{zero_tree, zero_branches, zero_part, zero_single, zero_shaped, default_of, as_count}
+use Rattle.evp_format.specs.Zero.{zero_tree, zero_branches, zero_part, zero_shaped, default_of, as_count}
 use Rattle.evp_format.proofs.Zeros.{zero_in_range, branch_found}
 
 -- a number in a range passes its test

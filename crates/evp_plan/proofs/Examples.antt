@@ -12,7 +12,7 @@ use Rattle.evp_format.specs.declared.place.PlaceStep.TheVariants.{At, Nth}
 use Rattle.evp_format.specs.declared.record_type.RecordType.{RecordType}
 use Rattle.evp_format.specs.Converting.{Made, made, unfit, large}
 use Rattle.evp_format.specs.Layout.{Layout}
-use Rattle.evp_format.specs.Packing.{Pieces, put_pieces, machine_of}
+use Rattle.evp_format.specs.Packing.{machine_of}
 use Rattle.evp_format.specs.Tree.{Tree, tree, Branches, root_of, length_of}
 use Rattle.evp_format.specs.Viewing.{image_of}
 use Rattle.evp_plan.specs.Matching.{compiled_tree}

@@ -1,7 +1,7 @@
 -- A gather paints by its cells.
-use Rattle.std.proofs.Common.{◌≡◌, ℕ, zero, suc, ◌+◌, ◌*◌, ◌%◌, ◌<◌, ◌≤◌, Bool, true, false, ◌&&◌, ◌||◌, List, [], ◌∷◌, ◌++◌, length, take}
+use Rattle.std.proofs.Common.{◌≡◌, ℕ, zero, suc, ◌+◌, ◌<◌, ◌≤◌, Bool, true, false, ◌&&◌, List, [], ◌∷◌, ◌++◌, length, take}
 use Rattle.std.proofs.Common.{drop, map, get_or, refl, sym, ap, ◌∙◌, subst, ◌⊎◌, inl, inr, arith}
-use Rattle.std.specs.Prelude.{slice_index, nat_lt, nat_eq, if◌then◌else◌, replicate}
+use Rattle.std.specs.Prelude.{slice_index, replicate}
 use Rattle.std.proofs.Math.Nat.{mod-eq_of_lt}
 use Rattle.std.proofs.lemmas.Bool.Decides.{nat_tests}
 use Rattle.std.proofs.lemmas.Grind.{and_numeral}
@@ -12,7 +12,7 @@ use lib.Lanes.{zip2}
 use Rattle.evp_base.proofs.Digits.{AreBytes}
 use Rattle.evp_wide.specs.Gathered.{picked, gathered, with_constant, with_kept}
 use Rattle.evp_plan.specs.declared.cell.Cell.{Cell}
-use Rattle.evp_plan.specs.declared.cell.Cell.TheVariants.{Keep, Constant, Byte, Sign}
+use Rattle.evp_plan.specs.declared.cell.Cell.TheVariants.{Keep, Constant, Byte}
 use Rattle.evp_plan.specs.declared.gather.Gather.{Gather}
 use Rattle.evp_plan.specs.Cells.{cell_value, painted, painted_at, overlaid, blend_cell, blend_cells, gather_cells, gathers_over}
 use Rattle.evp_plan.specs.Cells.{IsGatherWithin}

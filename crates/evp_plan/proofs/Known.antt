@@ -1,11 +1,11 @@
 -- Fields by name and by number, as what they are.
-use Rattle.std.proofs.Common.{◌≡◌, ℕ, zero, suc, ◌+◌, ◌<◌, ◌≤◌, ℤ, pos, Bool, true, false, IsTrue, List, [], ◌∷◌, ◌++◌, length, get_or}
-use Rattle.std.proofs.Common.{drop, Option, Some, None, refl, sym, ap, ◌∙◌, subst, arith, add-one, drop-cons, append_assoc, rules}
+use Rattle.std.proofs.Common.{◌≡◌, ℕ, zero, suc, ◌+◌, ◌<◌, ◌≤◌, pos, Bool, true, false, List, [], ◌∷◌, ◌++◌, length, get_or}
+use Rattle.std.proofs.Common.{drop, Option, Some, None, refl, sym, ap, ◌∙◌, arith, add-one, drop-cons, append_assoc}
 use Rattle.std.proofs.lemmas.List.{append-nil}
 use Rattle.std.specs.Prelude.{slice_get, if◌then◌else◌}
 use Rattle.evp_format.specs.declared.field.Field.{Field}
 use Rattle.evp_format.specs.Bytes.{bytes_equal}
-use Rattle.evp_format.specs.Tree.{Tree, Branches, Part, branches_of, part_of}
+use Rattle.evp_format.specs.Tree.{Tree, branches_of, part_of}
 use Rattle.evp_format.specs.declared.field.Base.{Base}
 use Rattle.evp_format.specs.declared.field.Base.TheVariants.{Number, Text, Nested}
 use Rattle.evp_format.proofs.Pushed.{bytes_equal-same, bytes_equal-true}

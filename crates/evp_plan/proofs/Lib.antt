@@ -16,3 +16,5 @@ pub mod Painting
 pub mod Gathered
 pub mod Painted
 pub mod Compiled
+pub mod QuietLists
+pub mod QuietSteps

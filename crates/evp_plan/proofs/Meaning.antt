@@ -1,19 +1,17 @@
 -- A plan with the compiled steps stands for its pair of formats.
-use Rattle.std.proofs.Common.{◌≡◌, ℕ, ◌-◌, ◌≤◌, ◌⊎◌, Bool, true, false, nat_lt, IsTrue, ◌↔◌, List, [], length, Option, Some, None, Result}
-use Rattle.std.proofs.Common.{Ok, Err, refl, sym, ap, ◌∙◌, subst, arith, ⊎_elim}
-use Rattle.std.specs.Prelude.{replicate}
+use Rattle.std.proofs.Common.{◌≡◌, ℕ, ◌-◌, ◌≤◌, ◌⊎◌, Bool, true, false, nat_lt, IsTrue, ◌↔◌, List, [], length, Some, None}
+use Rattle.std.proofs.Common.{Ok, refl, sym, ap, ◌∙◌, subst, arith, ⊎_elim}
 use Rattle.std.proofs.lemmas.Bool.Decides.{nat_tests}
 use Rattle.evp_base.specs.Numbers.{is_width}
-use Rattle.evp_format.specs.declared.broken.Broken.{Broken}
 use Rattle.evp_format.specs.declared.broken.Broken.TheVariants.{ShortRecord}
 use Rattle.evp_format.specs.declared.place.PlaceStep.{PlaceStep}
-use Rattle.evp_format.specs.Clashing.{clash, clash_branches}
+use Rattle.evp_format.specs.Clashing.{clash}
 use Rattle.evp_format.specs.Converting.{Made, made, unfit, large, unless_large, make_tree, convert, entries_of}
 use Rattle.evp_format.specs.Datum.{Datum, rec, Entries}
 use Rattle.evp_format.specs.LaidTree.{IsLaidTree}
 use Rattle.evp_format.specs.Layout.{Layout}
-use Rattle.evp_format.specs.Packing.{Pieces, Machine, machine_of, pack_tree, put_pieces, pack}
-use Rattle.evp_format.specs.Tree.{Tree, tree, Branches, root_of, length_of}
+use Rattle.evp_format.specs.Packing.{Pieces, Machine, machine_of, pack_tree}
+use Rattle.evp_format.specs.Tree.{Tree, tree, root_of, length_of}
 use Rattle.evp_format.specs.Viewing.{Image, Walked, read, broken, unless, view_tree, view_branches, viewed, view, image_of}
 use Rattle.evp_format.specs.WellLaid.{IsWellLaid, depth}
 use Rattle.evp_format.proofs.Trees.{laid_root}

@@ -1,8 +1,8 @@
 -- The cells of a number make its bytes.
-use Rattle.std.proofs.Common.{◌≡◌, ◌≢◌, ℕ, zero, suc, ◌+◌, ◌-◌, ◌*◌, ◌/◌, ◌%◌, ◌^◌, ◌<◌, ◌≤◌, ℤ, pos, negsuc, ◌-ℤ◌, List, [], ◌∷◌, ◌++◌}
-use Rattle.std.proofs.Common.{length, take, drop, map, reverse, get_or, nat_lt, if◌then◌else◌, IsTrue, refl, sym, ap, ◌∙◌, subst, inl, inr}
+use Rattle.std.proofs.Common.{◌≡◌, ◌≢◌, ℕ, zero, suc, ◌+◌, ◌-◌, ◌*◌, ◌/◌, ◌%◌, ◌^◌, ◌<◌, ◌≤◌, pos, negsuc, ◌-ℤ◌, List, [], ◌∷◌, ◌++◌}
+use Rattle.std.proofs.Common.{length, take, drop, map, reverse, refl, sym, ap, ◌∙◌, subst, inl, inr}
 use Rattle.std.proofs.Common.{arith, length-take, length-drop}
-use Rattle.std.specs.Prelude.{⊤, slice_index}
+use Rattle.std.specs.Prelude.{slice_index}
 use Rattle.std.proofs.Math.Nat.{mod-lt, pow-suc, one-le-pow}
 use Rattle.std.proofs.Math.Arith.{mod-mul}
 use Rattle.std.proofs.lemmas.List.Elements.{All-nil, All-cons, All-take, All-drop}
@@ -18,10 +18,10 @@ use Rattle.evp_base.specs.declared.kind.Kind.{Kind}
 use Rattle.evp_base.specs.declared.kind.Kind.TheVariants.{Int, Unsigned, Char, Boolean, Enumeration}
 use Rattle.evp_base.specs.declared.order.Order.{Order}
 use Rattle.evp_base.specs.declared.order.Order.TheVariants.{Little, Big}
-use Rattle.evp_base.specs.Numbers.{number, digits, residue, weighed, low_first, low_digits, magnitude, twos_complement}
-use Rattle.evp_base.proofs.Digits.{AreBytes, AreBytes-low_first, length-low_first, weighed-lt, length-low_digits}
+use Rattle.evp_base.specs.Numbers.{number, digits, residue, weighed, low_first, low_digits, twos_complement}
+use Rattle.evp_base.proofs.Digits.{AreBytes, AreBytes-low_first, length-low_first, weighed-lt}
 use Rattle.evp_plan.specs.declared.cell.Cell.{Cell}
-use Rattle.evp_plan.specs.declared.cell.Cell.TheVariants.{Keep, Constant, Byte, Sign}
+use Rattle.evp_plan.specs.declared.cell.Cell.TheVariants.{Byte}
 use Rattle.evp_plan.specs.Cells.{sign_byte, cell_value, bytes_from, turned, resized, top_offset, filling, number_cells, constants}
 use Rattle.evp_plan.proofs.Painting.{Makes}
 

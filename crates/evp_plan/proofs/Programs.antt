@@ -1,6 +1,6 @@
 -- The program of a list of steps: it doesn't depend on later lists, and refers to the programs of the whole table.
 use Rattle.std.proofs.Common.{◌≡◌, ℕ, zero, suc, ◌+◌, ◌<◌, ◌≤◌, List, [], ◌∷◌, ◌++◌, length, get_or, take, drop, Option, Some, None, refl}
-use Rattle.std.proofs.Common.{sym, ap, ◌∙◌, subst, arith, length-append, take-append-drop}
+use Rattle.std.proofs.Common.{sym, ap, ◌∙◌, arith, length-append}
 use Rattle.std.specs.Prelude.{slice_get}
 use Rattle.evp_plan.specs.declared.step.Step.{Step}
 use Rattle.evp_plan.specs.Program.{Program, no_steps, performs, inner_program, program_of, programs_behind, programs, program_at, IsOrdered}

@@ -14,23 +14,23 @@ use Rattle.evp_format.specs.declared.place.PlaceStep.{PlaceStep}
 use Rattle.evp_format.specs.declared.place.PlaceStep.TheVariants.{Nth}
 use Rattle.evp_format.specs.Bytes.{bytes_equal}
 use Rattle.evp_format.specs.Clashing.{branch_named, clash_partners, clash_branches, clash_parts}
-use Rattle.evp_format.specs.Datum.{Datum, list, Elements, empty_list, element, Entries, empty_record, count_of, named}
+use Rattle.evp_format.specs.Datum.{Datum, Elements, empty_list, element, Entries, empty_record, count_of, named}
 use Rattle.evp_format.specs.Converting.{entries_of}
-use Rattle.evp_format.specs.LaidTree.{Matches, IsLaidRecord, IsLaidTree, AreLaidBranches, IsLaidPart}
+use Rattle.evp_format.specs.LaidTree.{IsLaidTree, AreLaidBranches, IsLaidPart}
 use Rattle.evp_format.specs.Tree.{Tree, tree, Branches, no_fields, branch, Part, number_part, text_part, tree_part, branch_at, fields_of}
-use Rattle.evp_format.specs.Viewing.{Image, Walked, read, broken, unless, view_part, view_counted, view_elements, view_string, ended_text}
+use Rattle.evp_format.specs.Viewing.{Image, Walked, read, unless, view_part, view_counted, view_elements, view_string, ended_text}
 use Rattle.evp_format.specs.Viewing.{until_zero, as_list, pointer_at, field_number}
 use Rattle.evp_format.specs.WellLaid.{extent, shape_extent, HasShape}
 use Rattle.evp_format.specs.Zero.{as_count}
 use Rattle.evp_plan.specs.declared.step.Run.{Run}
-use Rattle.evp_plan.specs.Matching.{Content, numbers, texts, records, content_of, known_branches, known_named, number_origin, single_origin}
+use Rattle.evp_plan.specs.Matching.{Content, content_of, known_branches, number_origin, single_origin}
 use Rattle.evp_plan.specs.Matching.{wanted_origin, run_by, run_for, part_for, offset_of, or_zero, op_for, inside_partner, compiled_tree}
 use Rattle.evp_plan.specs.Matching.{compiled, compiled_part}
-use Rattle.evp_plan.specs.Ready.{IsOriginThere, IsTextAt, IsTextBy, IsTextThere, IsPartThere, IsStartThere, IsRunThere, IsDefaultThere}
+use Rattle.evp_plan.specs.Ready.{IsOriginThere, IsTextAt, IsTextBy, IsTextThere, IsPartThere, IsStartThere, IsDefaultThere}
 use Rattle.evp_plan.specs.Ready.{AreElementsThere, IsOpThere, IsReady}
-use Rattle.evp_plan.specs.Standing.{origin_number, run_start, run_count, element_place}
+use Rattle.evp_plan.specs.Standing.{run_count, element_place}
 use Rattle.evp_plan.proofs.Alikes.{is_array, same_shape, same_part}
-use Rattle.evp_plan.proofs.Conversions.{branches_in, AreAlike, alike_branches, alike_with, alike_at, IsAlike, clash_of_trees, RecordGiven}
+use Rattle.evp_plan.proofs.Conversions.{branches_in, AreAlike, alike_branches, alike_with, alike_at, IsAlike, clash_of_trees}
 use Rattle.evp_plan.proofs.Conversions.{record_given}
 use Rattle.evp_plan.proofs.Defaults.{no_clash_with_nothing}
 use Rattle.evp_plan.proofs.Sent.{passed, PartSent, FieldSent, RecordSent, IsPartner, EachSent, ArraySent, nothing_sent, partner, known_of}

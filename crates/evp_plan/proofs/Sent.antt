@@ -1,6 +1,6 @@
 -- What a sender's record holds at its fields, as a walk read it.
-use Rattle.std.proofs.Common.{◌≡◌, ℕ, zero, suc, ◌+◌, ◌*◌, ◌<◌, ◌≤◌, ℤ, pos, negsuc, Bool, true, false, ◌||◌, nat_lt, nat_eq, not, List, []}
-use Rattle.std.proofs.Common.{◌∷◌, ◌++◌, length, drop, Option, Some, None, refl, sym, ap, ◌∙◌, subst, arith}
+use Rattle.std.proofs.Common.{◌≡◌, ℕ, zero, suc, ◌+◌, ◌*◌, ℤ, pos, negsuc, Bool, true, false, ◌||◌, nat_lt, nat_eq, not, List, []}
+use Rattle.std.proofs.Common.{◌∷◌, ◌++◌, length, drop, Option, Some, None, refl, ap, ◌∙◌, subst}
 use Rattle.std.specs.Prelude.{if◌then◌else◌, slice_get, ⊤}
 use Rattle.evp_format.specs.declared.broken.Broken.{Broken}
 use Rattle.evp_format.specs.declared.broken.Broken.TheVariants.{NullList, BlockPlace}
@@ -11,14 +11,14 @@ use Rattle.evp_format.specs.declared.place.PlaceStep.{PlaceStep}
 use Rattle.evp_format.specs.declared.place.PlaceStep.TheVariants.{At, Nth}
 use Rattle.evp_format.specs.Bytes.{bytes_equal}
 use Rattle.evp_format.specs.Clashing.{branch_named}
-use Rattle.evp_format.specs.Datum.{Datum, num, null, text, list, rec, Elements, empty_list, element, Entries, empty_record, entry, named}
+use Rattle.evp_format.specs.Datum.{Datum, num, list, rec, Elements, empty_list, element, Entries, empty_record, entry, named}
 use Rattle.evp_format.specs.Datum.{count_of}
-use Rattle.evp_format.specs.Tree.{Tree, tree, Branches, no_fields, branch, Part, number_part, text_part, tree_part, branch_at}
-use Rattle.evp_format.specs.Viewing.{Image, Walked, read, broken, then_walk, unless, view_tree, view_branches, view_part, view_shaped}
+use Rattle.evp_format.specs.Tree.{tree, Branches, no_fields, branch, Part, number_part, text_part, tree_part, branch_at}
+use Rattle.evp_format.specs.Viewing.{Image, Walked, read, broken, then_walk, unless, view_branches, view_part, view_shaped}
 use Rattle.evp_format.specs.Viewing.{view_counted, view_elements, view_string, ended_text, until_zero, as_list, pointer_at, field_number}
 use Rattle.evp_plan.specs.declared.step.Run.{Run}
-use Rattle.evp_plan.specs.Matching.{Content, numbers, texts, records, content_of, known_branches, known_named, number_origin, run_by}
-use Rattle.evp_plan.specs.Standing.{origin_number, ended, text_by, text_from, run_start, run_count, element_place}
+use Rattle.evp_plan.specs.Matching.{Content, content_of, known_branches, known_named, number_origin, run_by}
+use Rattle.evp_plan.specs.Standing.{origin_number, ended, text_by, text_from, run_count, element_place}
 use Rattle.evp_base.specs.declared.kind.Kind.{Kind}
 use Rattle.evp_base.specs.Numbers.{number}
 use Rattle.evp_format.specs.Bytes.{bytes_at}

@@ -1,7 +1,7 @@
 -- The table of steps: each list compiles to what makes its type from its row.
-use Rattle.std.proofs.Common.{◌≡◌, ℕ, zero, suc, ◌+◌, ◌*◌, ◌-◌, ◌<◌, ◌≤◌, ◌/◌, Bool, true, false, List, [], ◌∷◌, ◌++◌, length, get_or, take}
-use Rattle.std.proofs.Common.{Option, Some, None, refl, sym, ap, ◌∙◌, subst, arith, length-append, ◌⊎◌, inl, inr, rules}
-use Rattle.std.specs.Prelude.{slice_get, if◌then◌else◌, ⊤}
+use Rattle.std.proofs.Common.{◌≡◌, ℕ, zero, suc, ◌+◌, ◌*◌, ◌-◌, ◌<◌, ◌≤◌, ◌/◌, Bool, true, false, List, [], ◌∷◌, ◌++◌, length, take}
+use Rattle.std.proofs.Common.{Option, Some, refl, sym, ap, ◌∙◌, arith, length-append, ◌⊎◌, inl, inr, rules}
+use Rattle.std.specs.Prelude.{slice_get, if◌then◌else◌}
 use Rattle.std.proofs.Math.Nat.{mul-le-mul_left}
 use Rattle.std.proofs.lemmas.Nat.{div-mul-add}
 use Rattle.evp_format.specs.declared.field.Base.{Base}
@@ -11,8 +11,8 @@ use Rattle.evp_format.specs.declared.record_type.RecordType.{RecordType}
 use Rattle.evp_format.specs.Bytes.{bytes_equal}
 use Rattle.evp_format.specs.Clashing.{branch_named}
 use Rattle.evp_format.specs.Layout.{Layout}
-use Rattle.evp_format.specs.Tree.{Tree, tree, Branches, no_fields, branch, Part, tree_part, part_of, branches_of, resolved, trees, tree_of}
-use Rattle.evp_format.specs.Tree.{empty_tree, length_of, root_of}
+use Rattle.evp_format.specs.Tree.{Tree, tree, Branches, Part, tree_part, part_of, branches_of, trees, tree_of}
+use Rattle.evp_format.specs.Tree.{length_of, root_of}
 use Rattle.evp_format.specs.WellLaid.{IsWellLaid, HasBaseSize}
 use Rattle.evp_format.proofs.Trees.{tree_of-resolved, slice_get-below}
 use Rattle.evp_plan.specs.declared.step.Step.{Step}
@@ -21,9 +21,9 @@ use Rattle.evp_plan.specs.Building.{row_of_base, row_of, inner_of, field_named, 
 use Rattle.evp_plan.specs.Building.{EachNestsBelow, IsRow, IsTypeOf, IsTable}
 use Rattle.evp_plan.specs.Matching.{Content, content_of, content_of_base, known_branches, known_fields, task_for, inside_partner}
 use Rattle.evp_plan.specs.Matching.{compiled_tree, compiled, compiled_part}
-use Rattle.evp_plan.specs.Program.{Program, no_steps, performs, inner_program, program_of, programs, program_at, IsOrdered}
+use Rattle.evp_plan.specs.Program.{Program, performs, inner_program, program_of, programs, program_at}
 use Rattle.evp_plan.proofs.Known.{known_branches-of, content_of-part_of}
-use Rattle.evp_plan.proofs.Programs.{program_at-before, program_at-added, found_below}
+use Rattle.evp_plan.proofs.Programs.{program_at-before, program_at-added}
 
 -- ---- the partner's row
 

@@ -1,15 +1,14 @@
 -- The steps that are made for two types: one for each field of the receiver's.
-use Rattle.std.specs.Prelude.{◌≡◌, ℕ, zero, suc, ◌+◌, ◌*◌, ◌≤◌, ◌<◌, List, [], ◌∷◌, length}
+use Rattle.std.specs.Prelude.{◌≡◌, ℕ, zero, suc, ◌+◌, ◌*◌, ◌<◌, List, [], ◌∷◌, length}
 use Rattle.std.specs.Prelude.{if◌then◌else◌, slice_get, Option, Some, None, ⊤}
 use Rattle.evp_format.specs.Bytes.{bytes_equal}
 use Rattle.evp_format.specs.declared.field.Base.{Base}
 use Rattle.evp_format.specs.declared.field.Base.TheVariants.{Number, Text, Nested}
 use Rattle.evp_format.specs.declared.field.Field.{Field}
-use Rattle.evp_format.specs.declared.record_type.RecordType.{RecordType}
 use Rattle.evp_format.specs.Layout.{Layout}
 use Rattle.evp_format.specs.Tree.{Tree, tree, Branches, no_fields, tree_of, trees, branches_of}
 use Rattle.evp_plan.specs.declared.step.Step.{Step}
-use Rattle.evp_plan.specs.Matching.{Content, content_of_base, known_fields, known_named, task_for}
+use Rattle.evp_plan.specs.Matching.{Content, content_of_base, known_fields, task_for}
 use Rattle.evp_plan.specs.Matching.{compiled_tree}
 use Rattle.evp_plan.specs.Program.{program_at, IsOrdered}
 

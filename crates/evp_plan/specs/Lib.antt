@@ -8,6 +8,7 @@ pub mod Measuring
 pub mod Moving
 pub mod Planned
 pub mod Program
+pub mod Quiet
 pub mod Ready
 pub mod Sound
 pub mod Standing

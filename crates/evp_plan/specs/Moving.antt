@@ -1,11 +1,10 @@
 -- What the steps of a plan write by a sender's bytes: pieces of the receiver's record. The sender's
 -- record stands at `at`, the receiver's at `t`.
-use Rattle.std.specs.Prelude.{ℕ, zero, suc, ◌+◌, ◌*◌, ℤ, pos, min, List, [], Option, Some, None}
-use Rattle.std.specs.Prelude.{option_map}
+use Rattle.std.specs.Prelude.{ℕ, zero, suc, ◌+◌, ◌*◌, pos, min, [], Option, Some, None}
 use Rattle.evp_base.specs.Numbers.{number, digits}
 use Rattle.evp_format.specs.Bytes.{bytes_at, next_block}
 use Rattle.evp_format.specs.Datum.{Datum, null}
-use Rattle.evp_format.specs.Packing.{Piece, Pieces, Machine, one_piece, then_pack, pointer_piece}
+use Rattle.evp_format.specs.Packing.{Pieces, Machine, one_piece, then_pack, pointer_piece}
 use Rattle.evp_format.specs.Packing.{pack_text}
 use Rattle.evp_format.specs.Viewing.{Image}
 use Rattle.evp_format.specs.Zero.{as_count}

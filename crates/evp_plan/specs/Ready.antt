@@ -1,9 +1,8 @@
 -- What the steps of a plan read stands inside the sender's bytes.
-use Rattle.std.specs.Prelude.{ℕ, zero, suc, ◌+◌, ◌<◌, ◌≤◌, Bool, true, false, IsTrue, IsSome, List}
+use Rattle.std.specs.Prelude.{ℕ, zero, suc, ◌+◌, ◌<◌, ◌≤◌, Bool, true, false, IsTrue, IsSome}
 use Rattle.std.specs.Prelude.{length, drop, Option, Some, None, ⊤}
 use Rattle.evp_base.specs.Numbers.{is_size_of}
 use Rattle.evp_format.specs.Viewing.{Image, pointer_at, until_zero}
-use Rattle.evp_plan.specs.declared.step.Elements.{Elements}
 use Rattle.evp_plan.specs.declared.step.Op.{Op}
 use Rattle.evp_plan.specs.declared.step.Op.TheVariants.{Number, Text, Nest, Each, Many}
 use Rattle.evp_plan.specs.declared.step.Origin.{Origin}

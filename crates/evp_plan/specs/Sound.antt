@@ -6,7 +6,6 @@ use Rattle.evp_plan.specs.declared.step.Op.{Op}
 use Rattle.evp_plan.specs.declared.step.Op.TheVariants.{Number, Text, Nest, Each, Many}
 use Rattle.evp_plan.specs.declared.step.Part.{Part}
 use Rattle.evp_plan.specs.declared.step.Part.TheVariants as part
-use Rattle.evp_plan.specs.declared.step.Task.{Task}
 use Rattle.evp_plan.specs.Program.{Program, no_steps, performs}
 
 -- an element of this size; `Inside` is said of the length of a record

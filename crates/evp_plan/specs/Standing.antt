@@ -1,5 +1,5 @@
 -- What stands in a sender's record: its numbers, texts and arrays, by their offsets.
-use Rattle.std.specs.Prelude.{ℕ, zero, suc, ◌+◌, ◌*◌, ℤ, pos, Bool, true, false, List, drop, Option}
+use Rattle.std.specs.Prelude.{ℕ, zero, suc, ◌+◌, ◌*◌, ℤ, Bool, true, false, List, drop, Option}
 use Rattle.std.specs.Prelude.{Some, None}
 use Rattle.evp_base.specs.Numbers.{number}
 use Rattle.evp_format.specs.Bytes.{bytes_at}

@@ -8,6 +8,7 @@ ghost use Rattle.evp_plan.specs.Faults.{IsBuildFault};
 ghost use Rattle.evp_plan.specs.Planned.{StandsFor};
 
 use crate::moves::all_moves;
+use crate::quiet::tests_in;
 use crate::table::table_of;
 use crate::{BuildFault, Builds, Plan};
 use evp_base::Memory;
@@ -48,5 +49,6 @@ fn plan_of(alloc: Global, from: &Format, to: &Format) -> Result<Plan, Memory>
     let _receiver = to.types();
     let table = table_of(alloc, from, to)?;
     let moves = all_moves(alloc, to.order(), from.order(), table.as_slice())?;
-    Ok(Plan::new(to, table, *from == *to, from.order(), moves))
+    let tests = tests_in(alloc, table.as_slice())?;
+    Ok(Plan::new(to, table, *from == *to, from.order(), moves, tests))
 }

@@ -11,6 +11,7 @@ mod gathering;
 mod matching;
 mod moves;
 mod plan;
+mod quiet;
 mod step;
 mod table;
 

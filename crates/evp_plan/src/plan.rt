@@ -2,9 +2,10 @@
 
 ghost use Rattle.std.specs.Prelude.{◌≡◌, ◌<◌, ◌≤◌, [], length, get_or, IfSome};
 ghost use Rattle.evp_plan.specs.Cells.{IsMovesOf, AreMovesOf};
-ghost use Rattle.evp_plan.specs.Program.{IsOrdered};
+ghost use Rattle.evp_plan.specs.Program.{IsOrdered, programs};
+ghost use Rattle.evp_plan.specs.Quiet.{tests_of, tests_in};
 
-use crate::{Moves, Steps};
+use crate::{Moves, Step, Steps};
 use evp_base::Order;
 use evp_format::Format;
 use std::marker::Model;
@@ -21,13 +22,16 @@ pub struct Plan {
     // all.
     sender: Order,
     moves: Vec<Option<Moves>>,
+    // For each list of steps those that can refuse something or take a block.
+    tests: Vec<Steps>,
 }
 
 impl Model for Plan {
-    ghost use Rattle.std.specs.Prelude.{◌≤◌, length};
+    ghost use Rattle.std.specs.Prelude.{◌≡◌, ◌≤◌, length};
     ghost use Rattle.evp_plan.specs.Planned.{Planned};
     ghost use Rattle.evp_plan.specs.Program.{IsOrdered};
     ghost use Rattle.evp_plan.specs.Cells.{AreMovesOf};
+    ghost use Rattle.evp_plan.specs.Quiet.{tests_in};
 
     ghost Value = { Planned };
 
@@ -40,7 +44,8 @@ impl Model for Plan {
     } };
 
     ghost invariant = { λ p. IsOrdered p.table.items × ((1 ≤ length p.table.items)
-        × AreMovesOf p.sender p.order p.table.items p.moves.items) };
+        × (AreMovesOf p.sender p.order p.table.items p.moves.items
+        × (p.tests.items ≡ tests_in p.table.items))) };
 }
 
 impl Plan {
@@ -53,10 +58,12 @@ impl Plan {
         alike: bool,
         sender: Order,
         moves: Vec<Option<Moves>>,
+        tests: Vec<Steps>,
     ) -> Self
         requires ordered { IsOrdered table.items }
         requires some { 1 ≤ length table.items }
         requires made { AreMovesOf sender to.now.order table.items moves.items }
+        requires tests { tests.items ≡ tests_in table.items }
         ensures { result ≡ planned_of to.now table.items alike }
     {
         Plan {
@@ -67,6 +74,7 @@ impl Plan {
             alike,
             sender,
             moves,
+            tests,
         }
     }
 
@@ -98,6 +106,17 @@ impl Plan {
         ensures some { 1 ≤ length self.now.table }
     {
         self.table.as_slice()
+    }
+
+    /// The steps of the list of that number that can refuse something or take a block, in their
+    /// order. What the list finds, it finds by these alone.
+    pub fn tests(&self, number: usize) -> &[Step]
+        requires { number < length self.now.table }
+        ensures tests { result.now ≡ tests_of (programs self.now.table)
+            (get_or self.now.table number []) }
+        ensures ordered { IsOrdered self.now.table }
+    {
+        self.tests[number].as_slice()
     }
 
     /// Whether the two formats are equal.

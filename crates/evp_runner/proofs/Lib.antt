@@ -5,4 +5,5 @@ mod Residues
 mod Runs
 mod Texts
 mod Painting
+mod Quieted
 mod Zeros

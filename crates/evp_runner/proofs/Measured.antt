@@ -1,6 +1,6 @@
 -- Measuring step by step: what was measured, followed by the rest.
-use Rattle.std.proofs.Common.{◌≡◌, ℕ, zero, suc, ◌+◌, ◌-◌, ◌*◌, ◌<◌, ◌≤◌, ◌^◌, ℤ, pos, IsTrue, Bool, true, false, not, List, [], ◌∷◌, ◌++◌}
-use Rattle.std.proofs.Common.{length, get_or, drop, Option, Some, None, Result, Ok, Err, refl, sym, ap, ◌∙◌, subst, arith, add-one}
+use Rattle.std.proofs.Common.{◌≡◌, ℕ, zero, suc, ◌+◌, ◌-◌, ◌*◌, ◌<◌, ◌≤◌, ℤ, pos, IsTrue, Bool, true, false, not, List, [], ◌∷◌, ◌++◌}
+use Rattle.std.proofs.Common.{length, get_or, drop, Some, None, Ok, Err, refl, sym, ap, ◌∙◌, subst, arith, add-one}
 use Rattle.std.proofs.Common.{drop-cons}
 use Rattle.std.specs.Prelude.{slice_get, nat_lt, if◌then◌else◌}
 use Rattle.std.proofs.Math.Nat.{mul-le-mul_left}
@@ -18,7 +18,7 @@ use Rattle.evp_plan.specs.Standing.{element_place, run_count}
 use Rattle.evp_plan.specs.Measuring.{op_fits, tested, measured_part, measured_op, measured_steps, measured, measured_elements, measured_run}
 use Rattle.evp_plan.specs.Measuring.{measured_list, has_other_count, counted_block}
 use Rattle.evp_plan.specs.Planned.{Planned}
-use Rattle.evp_plan.specs.Program.{Program, no_steps, performs, inner_program, program_of, programs, program_at, IsOrdered}
+use Rattle.evp_plan.specs.Program.{Program, program_of, programs, program_at, IsOrdered}
 use Rattle.evp_plan.specs.Ready.{IsReady}
 use Rattle.std.proofs.lemmas.Bool.{eqb-true}
 use Rattle.evp_base.specs.declared.kind.Kind.{Kind}
@@ -171,7 +171,7 @@ record_fault plan limit image place at n steps size fault ordered found err =
 
 -- ---- what can be run
 
-each_can : (plan : Planned) (image : Image) (steps : List Step) (at placed levels length : ℕ)
+pub each_can : (plan : Planned) (image : Image) (steps : List Step) (at placed levels length : ℕ)
     → IsReady image (program_of (programs plan.table) steps) at → placed + 2 * levels ≤ 32
     → IsSound plan.pointer (program_of (programs plan.table) steps) levels length → (k : ℕ) (step : Step) → slice_get steps k ≡ Some step
     → CanStep plan image step at placed

@@ -1,11 +1,11 @@
 -- Writing step by step: what was written, followed by the rest.
-use Rattle.std.proofs.Common.{◌≡◌, ◌≢◌, ℕ, zero, suc, ◌+◌, ◌-◌, ◌*◌, ◌<◌, ◌≤◌, ℤ, pos, List, [], ◌∷◌, ◌++◌, length, get_or, drop, min}
+use Rattle.std.proofs.Common.{◌≡◌, ◌≢◌, ℕ, zero, suc, ◌+◌, ◌-◌, ◌*◌, ◌<◌, ◌≤◌, pos, List, [], ◌∷◌, ◌++◌, length, get_or, drop}
 use Rattle.std.proofs.Common.{Option, Some, None, refl, sym, ap, ◌∙◌, subst, arith}
 use Rattle.std.specs.Prelude.{slice_get}
 use Rattle.std.proofs.Math.Nat.{mul-le-mul_left}
 use Rattle.evp_format.specs.Bytes.{put_at, next_block}
 use Rattle.evp_format.specs.Datum.{Datum, num, null, text, list, rec}
-use Rattle.evp_format.specs.Packing.{Piece, Pieces, Machine, one_piece, then_pack, pointer_piece, pack_text, put_pieces}
+use Rattle.evp_format.specs.Packing.{Piece, Pieces, Machine, then_pack, pointer_piece, pack_text, put_pieces}
 use Rattle.evp_format.specs.Viewing.{Image}
 use Rattle.evp_plan.specs.declared.step.Elements.{Elements}
 use Rattle.evp_plan.specs.declared.step.Op.{Op}
@@ -20,7 +20,7 @@ use Rattle.evp_plan.specs.Program.{Program, no_steps, performs, program_of, prog
 use Rattle.evp_base.specs.Numbers.{digits}
 use Rattle.evp_plan.specs.Ready.{AreElementsThere, IsReady}
 use Rattle.evp_plan.specs.Sound.{IsSound}
-use Rattle.evp_plan.specs.Standing.{origin_number, run_count, element_place}
+use Rattle.evp_plan.specs.Standing.{origin_number, run_count}
 use Rattle.evp_format.specs.Zero.{as_count}
 use Rattle.evp_plan.proofs.Programs.{program_at-steps}
 use Rattle.evp_runner.specs.Pieces.{IsPut}

@@ -1,12 +1,10 @@
 -- A record whose bytes are all made by gathers.
-use Rattle.std.proofs.Common.{◌≡◌, ℕ, zero, suc, ◌+◌, ◌≤◌, List, [], ◌∷◌, length, get_or, Some, refl, sym, ap, ◌∙◌, subst, arith}
+use Rattle.std.proofs.Common.{◌≡◌, ℕ, zero, suc, ◌+◌, ◌≤◌, List, [], ◌∷◌, length, get_or, Some, sym, ◌∙◌, subst, arith}
 use Rattle.std.specs.Prelude.{slice_get}
-use Rattle.evp_base.specs.declared.order.Order.{Order}
 use Rattle.evp_base.proofs.Digits.{AreBytes}
-use Rattle.evp_format.specs.Packing.{Pieces, put_pieces}
 use Rattle.evp_format.specs.Viewing.{Image}
 use Rattle.evp_plan.specs.declared.step.Step.{Step}
-use Rattle.evp_plan.specs.Cells.{Moving, painted_at, end_of, reach_of, IsMovesOf}
+use Rattle.evp_plan.specs.Cells.{Moving, painted_at, end_of, IsMovesOf}
 use Rattle.evp_plan.specs.Moving.{moved}
 use Rattle.evp_plan.specs.Planned.{Planned, machine_in}
 use Rattle.evp_plan.specs.Program.{Program, programs, program_of, program_at, IsOrdered}

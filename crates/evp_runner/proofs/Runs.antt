@@ -1,11 +1,11 @@
 -- A plan run on a record: what stands for its formats is found and written.
-use Rattle.std.proofs.Common.{◌≡◌, ℕ, ◌+◌, ◌-◌, ◌*◌, ◌≤◌, List, [], length, Result, Ok, Err, refl, sym, ap, ◌∙◌, subst, arith}
+use Rattle.std.proofs.Common.{◌≡◌, ℕ, ◌-◌, ◌≤◌, List, length, Result, Ok, Err, refl, sym, ap, ◌∙◌, subst, arith}
 use Rattle.std.specs.Prelude.{IsOk, replicate}
 use Rattle.evp_format.specs.declared.broken.Broken.{Broken}
 use Rattle.evp_format.specs.Converting.{Made, made, unfit, large, convert}
 use Rattle.evp_format.specs.Datum.{Datum}
 use Rattle.evp_format.specs.Layout.{Layout}
-use Rattle.evp_format.specs.Packing.{Pieces, put_pieces, pack}
+use Rattle.evp_format.specs.Packing.{Pieces, put_pieces}
 use Rattle.evp_format.specs.Viewing.{Image, image_of, view}
 use Rattle.evp_plan.specs.Measuring.{sized}
 use Rattle.evp_plan.specs.Moving.{moved}

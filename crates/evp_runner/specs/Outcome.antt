@@ -1,5 +1,5 @@
 -- What a conversion answers to the caller.
-use Rattle.std.specs.Prelude.{◌≡◌, ℕ, zero, suc, ◌+◌, ◌*◌, nat_lt, if◌then◌else◌, Option, Some}
+use Rattle.std.specs.Prelude.{ℕ, zero, suc, ◌+◌, ◌*◌, nat_lt, if◌then◌else◌, Option, Some}
 use Rattle.std.specs.Prelude.{None, not, List, [], ◌∷◌, ◌++◌, Result, Ok, Err}
 use Rattle.evp_format.specs.declared.place.PlaceStep.{PlaceStep}
 use Rattle.evp_format.specs.declared.place.PlaceStep.TheVariants.{At}

@@ -1,5 +1,5 @@
 -- Pieces put on the bytes of an output.
-use Rattle.std.specs.Prelude.{◌≡◌, ℕ, [], ◌∷◌, ◌++◌, List, length, Option, Some, None}
+use Rattle.std.specs.Prelude.{◌≡◌, ℕ, [], ◌∷◌, ◌++◌, List, Option, Some, None}
 use Rattle.evp_format.specs.Datum.{Datum, num, null, text, list, rec}
 use Rattle.evp_format.specs.Packing.{Pieces, put_pieces}
 

@@ -1,9 +1,9 @@
 -- A step of a plan at work on a sender's record.
-use Rattle.std.specs.Prelude.{◌≡◌, ℕ, ◌+◌, ◌-◌, ◌*◌, ◌<◌, ◌≤◌, List, length, Option, Some, None, ⊤}
+use Rattle.std.specs.Prelude.{◌≡◌, ℕ, ◌+◌, ◌*◌, ◌<◌, ◌≤◌, length, Option, Some, None, ⊤}
 use Rattle.evp_format.specs.Viewing.{Image}
 use Rattle.evp_plan.specs.declared.step.Step.{Step}
 use Rattle.evp_plan.specs.Planned.{Planned}
-use Rattle.evp_plan.specs.Program.{Program, inner_program, program_of, programs, program_at}
+use Rattle.evp_plan.specs.Program.{Program, inner_program, programs}
 use Rattle.evp_plan.specs.declared.step.Elements.{Elements}
 use Rattle.evp_plan.specs.declared.step.Part.{Part}
 use Rattle.evp_plan.specs.declared.step.Run.{Run}
@@ -74,6 +74,10 @@ pub record CanPart (plan : Planned) (image : Image) (step : Step) (part : Part) 
 -- the steps inside stand before list n
 abbrev pub IsEarlier : ℕ → Step → Type 0
 IsEarlier n step = (m : ℕ) → step.inner ≡ Some m → m < n
+
+-- the steps inside are of the plan
+abbrev pub IsInside : Planned → Step → Type 0
+IsInside plan step = (m : ℕ) → step.inner ≡ Some m → m < length plan.table
 
 -- the number of elements of the sender's array stands there
 abbrev pub IsCountThere : Image → ℕ → Option Run → Type 0

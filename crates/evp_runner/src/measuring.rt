@@ -11,11 +11,12 @@ ghost use Rattle.evp_plan.specs.Measuring.{tested, measured, measured_op, measur
 ghost use Rattle.evp_plan.specs.Measuring.{measured_list, measured_run, has_other_count, no_block};
 ghost use Rattle.evp_plan.specs.Measuring.{counted_block};
 ghost use Rattle.evp_plan.specs.Program.{program_of, programs, program_at};
+ghost use Rattle.evp_plan.specs.Quiet.{is_quiet, is_quiet_part};
 ghost use Rattle.evp_plan.specs.Ready.{IsTextBy, IsOriginThere};
 ghost use Rattle.evp_plan.specs.Standing.{text_by, origin_number, run_count};
 ghost use Rattle.evp_runner.specs.Outcome.{outcome, verdict, block_outcome, step_verdict, room_for};
 ghost use Rattle.evp_runner.specs.StepIn.{image_in, inside, CanRun, CanStep, CanList, CanElements};
-ghost use Rattle.evp_runner.specs.StepIn.{CanPart, IsEarlier, IsCountThere};
+ghost use Rattle.evp_runner.specs.StepIn.{CanPart, IsEarlier, IsInside, IsCountThere};
 
 use crate::ConvertFault;
 use crate::reading::{count_of, number_from, number_there, start_of, text_there};
@@ -112,7 +113,8 @@ fn test_numbers(
     Ok(())
 }
 
-// The size behind the record at `at`, made by the steps of that number.
+// The size behind the record at `at`, made by the steps of that number: only those are looked at
+// that can refuse something or take a block.
 #[cycle(measure)]
 pub(crate) fn measure_record(
     measure: &Measure,
@@ -130,7 +132,7 @@ pub(crate) fn measure_record(
         (program_at measure.now.plan.now.table number) place.now at size) }
     ensures bound { IfOk result (λ n. n < 2 ^ 32) }
 {
-    let steps = measure.plan.table()[number].as_slice();
+    let steps = measure.plan.tests(number);
     test_numbers(measure, steps, at, place)?;
     let mut size = size;
     for step in steps {
@@ -322,7 +324,28 @@ fn take_elements(measure: &Measure, n: u128, element_size: u32, size: usize) -> 
     Some(end)
 }
 
-// The size behind n elements of the sender's array; zeros take no block.
+// Whether the records inside a step's field find nothing.
+fn is_quiet_inside(measure: &Measure, step: &Step) -> bool
+    requires { IsInside measure.now.plan.now step.now }
+    ensures { result ≡ is_quiet (inside measure.now.plan.now step.now) }
+{
+    match step.inner {
+        None => true,
+        Some(number) => measure.plan.tests(number as usize).is_empty(),
+    }
+}
+
+// Whether no element of a step's array can be refused or takes a block.
+fn is_quiet(measure: &Measure, step: &Step, part: &Part) -> bool
+    requires { IsInside measure.now.plan.now step.now }
+    ensures { result ≡ is_quiet_part step.now.task.size part.now
+        (is_quiet (inside measure.now.plan.now step.now)) }
+{
+    part.is_quiet(step.task.size, is_quiet_inside(measure, step))
+}
+
+// The size behind n elements of the sender's array; zeros take no block, and neither do elements
+// that find nothing.
 #[cycle(measure)]
 fn measure_run(
     measure: &Measure,
@@ -351,6 +374,9 @@ fn measure_run(
     match &elements.run {
         None => Ok(size),
         Some(run) => {
+            if is_quiet(measure, step, &elements.part) {
+                return Ok(size);
+            }
             measure_elements(
                 measure,
                 number,

@@ -15,7 +15,7 @@ ghost use Rattle.evp_runner.specs.StepIn.{image_in};
 use crate::ConvertFault;
 use crate::measuring::{Measure, measure_record};
 use crate::moving::{Move, move_record};
-use crate::sender::Sender;
+use crate::sender::{Sender, are_bytes};
 use evp_format::Place;
 use evp_plan::Plan;
 use evp_record::Checked;
@@ -64,8 +64,10 @@ fn sender_of<'a>(item: &Checked<'a>) -> Sender<'a>
 {
     let format = item.format();
     let _types = format.types();
+    let bytes = item.bytes();
+    are_bytes(bytes);
     Sender {
-        bytes: item.bytes(),
+        bytes,
         order: format.order(),
         pointer: format.pointer(),
     }

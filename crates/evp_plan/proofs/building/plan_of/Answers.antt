@@ -1,4 +1,4 @@
-use Rattle.std.proofs.Common.{◌≡◌, ◌∙◌, ap, sym, subst, refl, List, Bool, ℕ, IsTrue, ◌↔◌}
+use Rattle.std.proofs.Common.{sym, subst, refl}
 use Rattle.evp_plan.specs.Planned.{Planned, planned_of, StandsFor}
 use Rattle.evp_plan.proofs.Meaning.{stands}
 use Rattle.evp_plan.proofs.Tables.{whole_compiled, some_lists}

@@ -1,4 +1,4 @@
-use Rattle.std.proofs.Common.{◌≡◌, drop, take, true}
+use Rattle.std.proofs.Common.{◌≡◌, drop}
 use Rattle.std.specs.List.{list_all}
 use Rattle.evp_plan.specs.Cells.{steps_over, is_plain_op}
 use Rattle.evp_plan.proofs.compiling.lay_steps.Given as goal

@@ -1,4 +1,4 @@
-use Rattle.std.proofs.Common.{◌≡◌, ◌∙◌, sym, drop, refl, ◌≢◌}
+use Rattle.std.proofs.Common.{◌∙◌, sym, refl, ◌≢◌}
 use Rattle.evp_plan.proofs.Known.{other_name, same_name, no_name}
 use Rattle.evp_plan.proofs.matching.field_named.Goals as goal
 

@@ -1,4 +1,4 @@
-use Rattle.std.proofs.Common.{◌≡◌, ◌∙◌, ap, sym, refl, pos, Some, None}
+use Rattle.std.proofs.Common.{refl, pos, Some, None}
 use Rattle.evp_plan.proofs.Known.{wanted_is}
 use Rattle.evp_plan.specs.declared.step.Origin.TheVariants.{Stated}
 use Rattle.evp_plan.proofs.matching.wanted_origin.Goals as goal

@@ -1,4 +1,4 @@
-use Rattle.std.proofs.Common.{◌≡◌, ◌∙◌, ap, sym, subst, suc, ◌+◌, ◌*◌, ◌∷◌, [], ◌++◌, List, ℕ, length, arith, add-one, length-append}
+use Rattle.std.proofs.Common.{◌≡◌, ◌∙◌, ap, sym, subst, suc, ◌+◌, ◌∷◌, [], List, ℕ, length, arith, add-one, length-append}
 use Rattle.evp_plan.specs.declared.step.Step.{Step}
 use Rattle.evp_plan.specs.Building.{IsTable, steps_for}
 use Rattle.evp_plan.proofs.Tables.{table_more}

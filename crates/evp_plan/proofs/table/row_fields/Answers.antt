@@ -1,7 +1,7 @@
-use Rattle.std.proofs.Common.{◌≡◌, ◌-◌, suc, subst, sym, ap, List, ℕ, arith}
+use Rattle.std.proofs.Common.{◌≡◌, ◌-◌, suc, subst, sym, List, ℕ, arith}
 use Rattle.evp_format.specs.declared.field.Field.{Field}
 use Rattle.evp_plan.specs.Building.{IsRow}
-use Rattle.evp_plan.proofs.Tables.{no_row, row_laid}
+use Rattle.evp_plan.proofs.Tables.{row_laid}
 use Rattle.evp_plan.proofs.table.row_fields.Goals as goal
 
 pub returns : goal.returns

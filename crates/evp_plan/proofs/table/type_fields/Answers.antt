@@ -1,4 +1,4 @@
-use Rattle.std.proofs.Common.{◌≡◌, subst, sym, List, length, ◌≤◌}
+use Rattle.std.proofs.Common.{subst, sym, List, length, ◌≤◌}
 use Rattle.evp_format.specs.declared.field.Field.{Field}
 use Rattle.evp_plan.specs.Building.{IsTypeOf}
 use Rattle.evp_plan.proofs.Tables.{type_laid}

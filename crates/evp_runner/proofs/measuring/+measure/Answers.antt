@@ -1,50 +1,43 @@
-use Rattle.std.proofs.Common.{◌≡◌, ◌∙◌, ℕ, ◌+◌, ◌*◌, List, [], ◌∷◌, ◌++◌, length, Some, ap, sym, arith}
-use Rattle.std.specs.Prelude.{slice_get}
+use Rattle.std.proofs.Common.{◌∙◌, ℕ, ◌+◌, ◌*◌, [], ◌∷◌, ◌++◌, length, ap, sym, arith}
 use Rattle.std.proofs.lemmas.Result.{err_from_is_err_and}
 use Rattle.std.proofs.lemmas.Int.{ints}
 use Rattle.evp_format.specs.declared.place.PlaceStep.TheVariants.{Nth}
-use Rattle.evp_format.specs.declared.place.PlaceStep.{PlaceStep}
 use Rattle.evp_format.specs.Converting.{Made}
 use Rattle.evp_plan.specs.Measuring.{measured, measured_part, measured_elements}
-use Rattle.evp_plan.specs.Planned.{Planned}
-use Rattle.evp_plan.specs.Standing.{element_place}
 use Rattle.evp_runner.specs.Outcome.{outcome}
 use Rattle.evp_runner.specs.StepIn.{image_in, inside}
-use Rattle.evp_runner.proofs.Measured.{found_steps, rest_made, element_made, made_next, made_fault, made_end, record_made, record_fault}
-use Rattle.evp_runner.proofs.Measured.{can_each, at_index, own_index, can_part, element_next, element_fault, element_end, some_bytes}
+use Rattle.evp_runner.proofs.Measured.{rest_made, element_made, made_next, made_fault, made_end}
+use Rattle.evp_runner.proofs.Measured.{at_index, own_index, can_part, element_next, element_fault, element_end, some_bytes}
+use Rattle.evp_runner.proofs.Quieted.{tested_list, tests_made, tests_fault, tests_can, tests_earlier, quiet_list}
 use Rattle.evp_runner.proofs.measuring.+measure.Goals as goal
 
 pub measure_record-test_numbers-requires-clause-can : goal.measure_record-test_numbers-requires-clause-can
 measure_record-test_numbers-requires-clause-can t c =
     let plan = c.args.measure.now.plan.now in
-    let steps = c.as_slice-steps.result.now in
-    let found = found_steps plan c.args.number c.table.result.now c.index-table-number.result steps c.table.ensures.value c.requires.known
-    c.index-table-number.is c.as_slice-steps.ensures in
-    can_each plan (image_in c.args.measure.now.sender) c.args.number steps c.args.at (length c.args.place.now) c.table.ensures.ordered found
-    c.requires.can
+    let steps = c.tests-steps.result.now in
+    let list = tested_list plan c.args.number steps c.tests-steps.ensures.ordered c.requires.known c.tests-steps.ensures.tests in
+    tests_can plan (image_in c.args.measure.now.sender) c.args.number steps c.args.at (length c.args.place.now) list c.requires.can
 
 pub measure_record-returns-in_err-test_numbers-clause-value : goal.measure_record-returns-in_err-test_numbers-clause-value
 measure_record-returns-in_err-test_numbers-clause-value t c =
     let p = err_from_is_err_and c.from_residual.result c.from_residual.ensures.1 in
     let plan = c.args.measure.now.plan.now in
-    let steps = c.as_slice-steps.result.now in
-    let found = found_steps plan c.args.number c.table.result.now c.index-table-number.result steps c.table.ensures.value c.requires.known
-    c.index-table-number.is c.as_slice-steps.ensures in
+    let steps = c.tests-steps.result.now in
+    let list = tested_list plan c.args.number steps c.tests-steps.ensures.ordered c.requires.known c.tests-steps.ensures.tests in
     let whole =
-    record_fault plan c.args.measure.now.limit (image_in c.args.measure.now.sender) c.args.place.now c.args.at c.args.number steps
-    c.args.size c.in_err-test_numbers.field-0.0 c.table.ensures.ordered found
+    tests_fault plan c.args.measure.now.limit (image_in c.args.measure.now.sender) c.args.place.now c.args.at c.args.number
+    (length c.args.place.now) steps c.args.size c.in_err-test_numbers.field-0.0 list c.requires.can c.args.measure.now.sender.are
     (sym c.in_err-test_numbers.ensures) in
     rw (p.1, p.2) (sym whole)
 
 pub measure_record-measure_step-requires : goal.measure_record-measure_step-requires
 measure_record-measure_step-requires t c =
     let plan = c.args.measure.now.plan.now in
-    let steps = c.as_slice-steps.result.now in
+    let steps = c.tests-steps.result.now in
     let k = c.loop-step.step-index in
-    let found = found_steps plan c.args.number c.table.result.now c.index-table-number.result steps c.table.ensures.value c.requires.known
-    c.index-table-number.is c.as_slice-steps.ensures in
-    let can = can_each plan (image_in c.args.measure.now.sender) c.args.number steps c.args.at (length c.args.place.now)
-    c.table.ensures.ordered found c.requires.can in (
+    let list = tested_list plan c.args.number steps c.tests-steps.ensures.ordered c.requires.known c.tests-steps.ensures.tests in
+    let can = tests_can plan (image_in c.args.measure.now.sender) c.args.number steps c.args.at (length c.args.place.now) list
+    c.requires.can in (
       omega arith,
       (
         c.requires.known,
@@ -54,7 +47,7 @@ measure_record-measure_step-requires t c =
             c.loop-step.invariant.0,
             (
               can k _ (at_index steps k _ c.loop-step-test.true),
-              λ m is. c.table.ensures.ordered c.args.number k m steps _ found (at_index steps k _ c.loop-step-test.true) is,
+              tests_earlier plan c.args.number steps k _ list (at_index steps k _ c.loop-step-test.true),
             ),
           ),
         ),
@@ -68,12 +61,11 @@ measure_record-returns-in_err-size-clause-value t c =
     let limit = c.args.measure.now.limit in
     let image = image_in c.args.measure.now.sender in
     let place = c.args.place.now in
-    let steps = c.as_slice-steps.result.now in
+    let steps = c.tests-steps.result.now in
     let k = c.loop-step.step-index in
-    let found = found_steps plan c.args.number c.table.result.now c.index-table-number.result steps c.table.ensures.value c.requires.known
-    c.index-table-number.is c.as_slice-steps.ensures in
-    let made = record_made plan limit image place c.args.at c.args.number steps c.args.size c.table.ensures.ordered found
-    (sym c.in_ok-test_numbers.ensures) in
+    let list = tested_list plan c.args.number steps c.tests-steps.ensures.ordered c.requires.known c.tests-steps.ensures.tests in
+    let made = tests_made plan limit image place c.args.at c.args.number (length place) steps c.args.size list c.requires.can
+    c.args.measure.now.sender.are (sym c.in_ok-test_numbers.ensures) in
     let fault =
     made_fault plan limit image place c.args.at steps k _ c.loop-step.size c.in_err-size.field-0.0
     (rest_made plan limit image place c.args.at steps c.args.size) (own_index steps k _ c.loop-step-test.true) c.loop-step-test.true
@@ -86,11 +78,10 @@ measure_record-returns-clause-value t c =
     let limit = c.args.measure.now.limit in
     let image = image_in c.args.measure.now.sender in
     let place = c.args.place.now in
-    let steps = c.as_slice-steps.result.now in
-    let found = found_steps plan c.args.number c.table.result.now c.index-table-number.result steps c.table.ensures.value c.requires.known
-    c.index-table-number.is c.as_slice-steps.ensures in
-    let made = record_made plan limit image place c.args.at c.args.number steps c.args.size c.table.ensures.ordered found
-    (sym c.in_ok-test_numbers.ensures) in
+    let steps = c.tests-steps.result.now in
+    let list = tested_list plan c.args.number steps c.tests-steps.ensures.ordered c.requires.known c.tests-steps.ensures.tests in
+    let made = tests_made plan limit image place c.args.at c.args.number (length place) steps c.args.size list c.requires.can
+    c.args.measure.now.sender.are (sym c.in_ok-test_numbers.ensures) in
     made_end plan limit image place c.args.at steps c.loop-step.step-index c.loop-step.size
     (rest_made plan limit image place c.args.at steps c.args.size) c.loop-step-test.false c.loop-step.invariant.1
     ∙ sym (ap outcome made)
@@ -101,7 +92,7 @@ measure_record-loop-step-preserved t c =
     let limit = c.args.measure.now.limit in
     let image = image_in c.args.measure.now.sender in
     let place = c.args.place.now in
-    let steps = c.as_slice-steps.result.now in
+    let steps = c.tests-steps.result.now in
     let k = c.loop-step.step-index in (
       c.in_ok-size.ensures.bound,
       made_next plan limit image place c.args.at steps k _ c.loop-step.size c.in_ok-size.size
@@ -169,3 +160,9 @@ measure_many-take_elements-requires-clause-some t c =
 
 pub measure_many-overflow_cast-wanted-in-Some : goal.measure_many-overflow_cast-wanted-in-Some
 measure_many-overflow_cast-wanted-in-Some t c = let few = c.in-Some.ensures.few in omega (arith, ints, few)
+
+pub measure_run-returns-then-is_quiet-clause-value : goal.measure_run-returns-then-is_quiet-clause-value
+measure_run-returns-then-is_quiet-clause-value t c =
+    quiet_list c.args.measure.now.plan.now c.args.measure.now.limit (image_in c.args.measure.now.sender) c.args.step.now
+    c.args.elements.now c.args.place.now c.args.at (length c.args.place.now) c.args.n c.args.size c.requires.can c.requires.same_count
+    c.args.measure.now.sender.are (sym c.if-is_quiet.ensures)

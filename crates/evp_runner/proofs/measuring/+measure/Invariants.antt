@@ -1,7 +1,6 @@
 use Rattle.std.proofs.Common.{◌≡◌, ◌+◌, ◌*◌, ◌-◌, ◌<◌, ◌^◌, drop}
-use Rattle.evp_plan.specs.Measuring.{measured, measured_part, measured_elements}
-use Rattle.evp_plan.specs.Standing.{element_place}
-use Rattle.evp_runner.specs.StepIn.{image_in, inside}
+use Rattle.evp_plan.specs.Measuring.{measured_elements}
+use Rattle.evp_runner.specs.StepIn.{image_in}
 use Rattle.evp_runner.proofs.Measured.{rest_made, element_made}
 use Rattle.evp_runner.proofs.measuring.+measure.Given as goal
 

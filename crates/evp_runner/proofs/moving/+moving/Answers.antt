@@ -1,11 +1,11 @@
-use Rattle.std.proofs.Common.{◌≡◌, ◌∙◌, ℕ, ◌+◌, ◌-◌, ◌*◌, ◌≤◌, List, length, Option, Some, ap, sym, subst, refl, arith}
+use Rattle.std.proofs.Common.{◌∙◌, ℕ, ◌+◌, ◌-◌, ◌*◌, ◌≤◌, length, Option, ap, sym, subst, refl, arith}
 use Rattle.std.proofs.Math.Nat.{mul-le-mul_left}
 use Rattle.evp_format.specs.Bytes.{next_block}
 use Rattle.evp_format.specs.Packing.{Pieces}
 use Rattle.evp_format.specs.Zero.{as_count}
 use Rattle.evp_plan.specs.declared.step.Op.{Op}
 use Rattle.evp_plan.specs.Moving.{moved, moved_op, moved_part, moved_count, moved_elements}
-use Rattle.evp_plan.specs.Planned.{Planned, machine_in}
+use Rattle.evp_plan.specs.Planned.{machine_in}
 use Rattle.evp_plan.specs.Ready.{IsOpThere, IsReady}
 use Rattle.evp_plan.specs.Sound.{IsSoundOp, IsSound}
 use Rattle.evp_plan.specs.Standing.{origin_number}

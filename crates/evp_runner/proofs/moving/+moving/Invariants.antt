@@ -1,7 +1,6 @@
 use Rattle.std.proofs.Common.{◌+◌, ◌-◌, ◌*◌, drop}
-use Rattle.evp_plan.specs.Moving.{moved_element, moved_elements, moved}
-use Rattle.evp_plan.specs.Planned.{machine_in}
-use Rattle.evp_runner.specs.StepIn.{image_in, inside}
+use Rattle.evp_plan.specs.Moving.{moved_elements}
+use Rattle.evp_runner.specs.StepIn.{image_in}
 use Rattle.evp_runner.proofs.Moved.{IsMoving, rest_moved, list_moved, element_one}
 use Rattle.evp_runner.proofs.moving.+moving.Given as goal
 

@@ -1,4 +1,4 @@
-use Rattle.std.proofs.Common.{◌≡◌, ◌∙◌, ℕ, ◌-◌, ◌%◌, ◌^◌, ◌*◌, ℤ, pos, ◌-ℤ◌, ◌+ℤ◌, ap, sym, arith, rules}
+use Rattle.std.proofs.Common.{◌∙◌, ℕ, ◌-◌, ◌%◌, ◌^◌, ◌*◌, ℤ, pos, ◌-ℤ◌, ◌+ℤ◌, ap, sym, arith, rules}
 use Rattle.std.proofs.lemmas.Int.{ints, to_z-of_z}
 use mir.Syntax.{w128}
 use mir.Val.{SFits}

@@ -1,4 +1,3 @@
-use Rattle.std.proofs.Common.{◌≡◌, Some}
 use Rattle.evp_runner.proofs.Texts.{text_before}
 use Rattle.evp_runner.proofs.reading.text_in.Goals as goal
 

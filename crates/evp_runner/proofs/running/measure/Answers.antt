@@ -1,6 +1,5 @@
-use Rattle.std.proofs.Common.{◌≡◌, ◌∙◌, ap, Err}
+use Rattle.std.proofs.Common.{◌∙◌}
 use Rattle.std.proofs.lemmas.Result.{err_from_is_err_and}
-use Rattle.evp_runner.specs.declared.convert_fault.ConvertFault.{ConvertFault}
 use Rattle.evp_runner.proofs.Runs.{measured_value}
 use Rattle.evp_runner.proofs.running.measure.Goals as goal
 

@@ -1,4 +1,4 @@
-use Rattle.std.proofs.Common.{◌≡◌, ◌∙◌, ℕ, ◌-◌, length, ap}
+use Rattle.std.proofs.Common.{ℕ, ◌-◌, length, ap}
 use Rattle.evp_runner.specs.StepIn.{image_in}
 use Rattle.evp_runner.proofs.Runs.{can_whole}
 use Rattle.evp_runner.proofs.running.measure_whole.Goals as goal

@@ -1,4 +1,4 @@
-use Rattle.std.proofs.Common.{◌≡◌, ◌∙◌, ℕ, ◌-◌, length, ap, refl}
+use Rattle.std.proofs.Common.{◌∙◌, ℕ, ◌-◌, length, ap}
 use Rattle.std.proofs.lemmas.List.{length-replicate}
 use Rattle.evp_runner.specs.StepIn.{image_in}
 use Rattle.evp_runner.proofs.Runs.{can_move_whole, fits_whole, converted_whole}

@@ -1,12 +1,11 @@
-use Rattle.std.proofs.Common.{◌≡◌, ℕ, ◌∙◌, length, sym, ap, subst, arith, List}
+use Rattle.std.proofs.Common.{◌∙◌, length, sym, ap, arith, List}
 use Rattle.std.specs.Prelude.{replicate}
 use Rattle.std.proofs.lemmas.List.{length-replicate}
 use Rattle.evp_plan.specs.declared.cell.Cell.{Cell}
-use Rattle.evp_base.proofs.Digits.{AreBytes}
 use Rattle.evp_format.proofs.Descriptions.{bytes_are}
 use Rattle.evp_plan.specs.declared.cell.Cell.TheVariants.{Keep}
 use Rattle.evp_plan.specs.declared.gather.Gather.{Gather}
-use Rattle.evp_plan.specs.Cells.{painted_at, gathers_over, Moving, IsGatherWithin}
+use Rattle.evp_plan.specs.Cells.{gathers_over, Moving}
 use Rattle.evp_plan.proofs.Gathered.{next_gather, no_gather, cells_long, all_gathers, one_within}
 use Rattle.evp_plan.proofs.moves.Moves.run.Goals as goal
 

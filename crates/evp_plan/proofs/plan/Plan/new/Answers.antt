@@ -1,4 +1,4 @@
-use Rattle.std.proofs.Common.{◌≡◌, ◌∙◌, ap, sym, List, Bool, ℕ}
+use Rattle.std.proofs.Common.{◌∙◌, ap, ℕ}
 use Rattle.evp_base.specs.declared.order.Order.{Order}
 use Rattle.evp_plan.specs.Planned.{Planned}
 use Rattle.evp_plan.proofs.Tables.{root_length}

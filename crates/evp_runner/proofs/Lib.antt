@@ -3,6 +3,7 @@ mod Moved
 mod Passes
 mod Residues
 mod Runs
+mod SideBySide
 mod Texts
 mod Painting
 mod Quieted

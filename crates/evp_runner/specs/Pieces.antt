@@ -1,5 +1,6 @@
 -- Pieces put on the bytes of an output.
-use Rattle.std.specs.Prelude.{◌≡◌, ℕ, [], ◌∷◌, ◌++◌, List, Option, Some, None}
+use Rattle.std.specs.Prelude.{◌≡◌, ℕ, [], ◌∷◌, ◌++◌, List, length, Option, Some, None}
+use Rattle.evp_format.specs.Bytes.{put_at}
 use Rattle.evp_format.specs.Datum.{Datum, num, null, text, list, rec}
 use Rattle.evp_format.specs.Packing.{Pieces, put_pieces}
 
@@ -15,3 +16,10 @@ block_of (rec entries) = None
 pub record IsPut (pieces : Pieces) (size : ℕ) (old new : List ℕ) : Type 0 where
   pub sized : size ≡ pieces.size
   pub put : new ≡ put_pieces pieces.all old
+
+-- bytes of which this holds stand in the place of so many from t on
+pub record IsPutOver (t : ℕ) (Holds : List ℕ → Type 0) (count : ℕ) (old new : List ℕ) : Type 0 where
+  pub bytes : List ℕ
+  pub holds : Holds bytes
+  pub long : length bytes ≡ count
+  pub put : new ≡ put_at t bytes old

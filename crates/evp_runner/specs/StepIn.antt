@@ -1,14 +1,19 @@
 -- A step of a plan at work on a sender's record.
-use Rattle.std.specs.Prelude.{◌≡◌, ℕ, ◌+◌, ◌*◌, ◌<◌, ◌≤◌, length, Option, Some, None, ⊤}
+use Rattle.std.specs.Prelude.{◌≡◌, ◌≢◌, IsTrue, List, ℕ, ◌+◌, ◌*◌, ◌<◌, ◌≤◌, length, Option, Some, None, ⊤}
+use Rattle.evp_base.specs.Numbers.{is_size_of}
+use Rattle.evp_base.specs.declared.kind.Kind.{Kind}
+use Rattle.evp_base.specs.declared.kind.Kind.TheVariants.{Boolean}
+use Rattle.evp_format.specs.Bytes.{bytes_at}
 use Rattle.evp_format.specs.Viewing.{Image}
 use Rattle.evp_plan.specs.declared.step.Step.{Step}
 use Rattle.evp_plan.specs.Planned.{Planned}
 use Rattle.evp_plan.specs.Program.{Program, inner_program, programs}
 use Rattle.evp_plan.specs.declared.step.Elements.{Elements}
 use Rattle.evp_plan.specs.declared.step.Part.{Part}
+use Rattle.evp_plan.specs.declared.step.Part.TheVariants as part
 use Rattle.evp_plan.specs.declared.step.Run.{Run}
 use Rattle.evp_format.specs.Datum.{Datum, null}
-use Rattle.evp_plan.specs.Standing.{text_by, run_count, element_place}
+use Rattle.evp_plan.specs.Standing.{text_by, run_count, run_start, element_place}
 use Rattle.evp_plan.specs.Ready.{IsOriginThere, IsTextBy, IsStartThere, IsOpThere, AreElementsThere}
 use Rattle.evp_plan.specs.Ready.{IsRunThere, IsDefaultThere, IsPartThere, IsReady}
 use Rattle.evp_plan.specs.Sound.{IsSoundPart, IsSoundOp, IsSound}
@@ -140,6 +145,29 @@ text_source image (Some s) = text_by image s
 abbrev pub AreFew : Image → ℕ → ℕ → Option Run → Type 0
 AreFew image at n None = ⊤
 AreFew image at n (Some run) = n ≤ run_count image at run
+
+-- numbers of the sender's array stand there
+abbrev pub AreNumbersThere : Image → ℕ → Part → Option Run → Type 0
+AreNumbersThere image at p None = ⊤
+AreNumbersThere image at (part.Number kind from width) (Some run) =
+    IsRunThere image at (part.Number kind from width) (λ s. ⊤) run
+AreNumbersThere image at part.Text (Some run) = ⊤
+AreNumbersThere image at part.Record (Some run) = ⊤
+
+-- the elements are numbers of one size on both sides, no booleans, and these are the n that stand
+-- side by side in the sender's array
+pub record AreSideBySide (image : Image) (at n size : ℕ) (elements : Elements) (bytes : List ℕ) :
+    Type 0 where
+  pub kind : Kind
+  pub from : Kind
+  pub run : Run
+  pub part_is : elements.part ≡ part.Number kind from size
+  pub run_is : elements.run ≡ Some run
+  pub stride_is : run.stride ≡ size
+  pub other : from ≢ Boolean
+  pub allowed : IsTrue (is_size_of from size)
+  pub within : run_start image at run + n * size ≤ length image.bytes
+  pub are : bytes ≡ bytes_at (run_start image at run) (n * size) image.bytes
 
 -- the sender's array begins there, and element k is inside the bytes
 abbrev pub IsElementThere : Image → ℕ → ℕ → Option Run → Type 0

@@ -1,10 +1,10 @@
 //! Moving: the packed bytes of a record in the receiver's format.
 
 ghost use Rattle.std.specs.Prelude.{◌≡◌, ◌+◌, ◌*◌, ◌-◌, ◌%◌, ◌^◌, ◌<◌, ◌≤◌, ◌<ℤ◌, ◌-ℤ◌, ◌+ℤ◌, ℕ};
-ghost use Rattle.std.specs.Prelude.{pos, List, length, IsTrue, Option, Some, None, option_map};
+ghost use Rattle.std.specs.Prelude.{pos, List, length, IsTrue, Option, Some, None, option_map, IfSome};
 ghost use Rattle.std.specs.Option.{option_copied};
 ghost use Rattle.evp_base.specs.Numbers.{digits, residue, is_width, is_size_of};
-ghost use Rattle.evp_format.specs.Bytes.{put_at, next_block};
+ghost use Rattle.evp_format.specs.Bytes.{bytes_at, put_at, next_block};
 ghost use Rattle.evp_format.specs.Packing.{pack_text};
 ghost use Rattle.evp_plan.specs.declared.step.Op.{Op};
 ghost use Rattle.evp_plan.specs.Moving.{moved, moved_op, moved_part, moved_elements, moved_many};
@@ -13,15 +13,18 @@ ghost use Rattle.evp_plan.specs.Planned.{machine_in};
 ghost use Rattle.evp_plan.specs.Program.{program_at};
 ghost use Rattle.evp_plan.specs.Ready.{IsTextBy, IsOriginThere};
 ghost use Rattle.evp_plan.specs.Standing.{text_by, ended, origin_number};
-ghost use Rattle.evp_runner.specs.Pieces.{block_of, IsPut};
+ghost use Rattle.evp_wide.specs.Elements.{AreReordered};
+ghost use Rattle.evp_runner.specs.Pieces.{block_of, IsPut, IsPutOver};
 ghost use Rattle.evp_runner.specs.StepIn.{image_in, inside, IsEarlier, IsCountThere};
 ghost use Rattle.evp_runner.specs.StepIn.{IsElementThere, AreFew, IsTextSource, text_source};
+ghost use Rattle.evp_runner.specs.StepIn.{AreNumbersThere, AreSideBySide};
 ghost use Rattle.evp_runner.specs.StepIn.{CanMove, CanMoveStep, CanMoveList, CanMovePart};
 
 use crate::reading::{block_there, count_from, count_of, number_from, number_there, start_of};
 use crate::sender::Sender;
-use evp_base::{Order, put_number};
+use evp_base::{Kind, Order, put_number};
 use evp_plan::{Elements, Op, Origin, Part, Plan, Run, Step};
+use evp_wide::reorder;
 
 // A conversion that is written: the plan and the sender's record.
 #[derive(Drop)]
@@ -291,6 +294,56 @@ fn move_many(
     move_elements(work, number, step, elements, at, n, out, q, end)
 }
 
+// So many bytes from a place on.
+fn part_of(bytes: &[u8], start: usize, count: usize) -> &[u8]
+    requires { start + count ≤ length bytes.now }
+    ensures { result.now ≡ bytes_at start count bytes.now }
+{
+    &bytes[start..start + count]
+}
+
+// The n numbers of the sender's array, where they stand side by side and the receiver's have the
+// same size.
+fn side_by_side<'a>(
+    work: &Move<'a>,
+    size: u32,
+    elements: &Elements,
+    at: usize,
+    n: usize,
+) -> Option<&'a [u8]>
+    requires at_inside { at ≤ length work.now.sender.bytes.now }
+    requires few { AreFew (image_in work.now.sender) at n elements.now.run }
+    requires there { AreNumbersThere (image_in work.now.sender) at elements.now.part elements.now.run }
+    ensures { IfSome result (λ bytes. AreSideBySide (image_in work.now.sender) at n size elements.now
+        bytes.now) }
+{
+    let Part::Number(_, from, width) = elements.part else {
+        return None;
+    };
+    let Some(run) = &elements.run else {
+        return None;
+    };
+    if from == Kind::Boolean || width != size || run.stride != size || n == 0 {
+        return None;
+    }
+    let start = start_of(&work.sender, at, run);
+    let count = n * size as usize;
+    let bytes = part_of(work.sender.bytes, start, count);
+    Some(bytes)
+}
+
+// Numbers of this size, from `base` on.
+fn put_numbers(work: &Move, size: u32, bytes: &[u8], out: &mut [u8], base: usize)
+    requires width { IsTrue (is_width size) }
+    requires whole { length bytes.now % size ≡ 0 }
+    requires room { base + length bytes.now ≤ length out.old }
+    ensures { IsPutOver base (AreReordered work.now.plan.now.order work.now.sender.order size
+        bytes.now) (length bytes.now) out.old out.new }
+{
+    let place = &mut out[base..base + bytes.len()];
+    reorder(place, work.plan.order(), bytes, work.sender.order, size);
+}
+
 // n elements, the first at `base`.
 #[cycle(moving)]
 fn move_elements(
@@ -322,6 +375,10 @@ fn move_elements(
         (inside work.now.plan.now step.now)) at k (base + k * step.now.task.size)) n 0 size) result
         out.old out.new }
 {
+    if let Some(bytes) = side_by_side(work, step.task.size, elements, at, n as usize) {
+        put_numbers(work, step.task.size, bytes, out, base);
+        return size;
+    }
     let mut size = size;
     for k in 0..n as usize {
         let t = base + k * step.task.size as usize;

@@ -3,3 +3,4 @@ pub mod Gathers
 pub mod Blocks
 pub mod Turned
 pub mod Wider
+pub mod Reordered

@@ -15,6 +15,7 @@ use Rattle.evp_runner.proofs.Measured.{found_steps, at_index, own_index, some_by
 use Rattle.evp_runner.proofs.Moved.{rest_moved, step_fits, step_next, moving_end, steps_end, record_moved, can_move_each, element_one}
 use Rattle.evp_runner.proofs.Moved.{one_grows, element_fits, element_moved, elements_end, can_move_part, few_of, most_of, element_room}
 use Rattle.evp_runner.proofs.Moved.{list_moved, many_fits, many_put}
+use Rattle.evp_runner.proofs.SideBySide.{numbers_there, numbers_moved, side_long, side_width, side_whole}
 use Rattle.evp_runner.proofs.Painting.{paints, paints_reach, paints_cells, paints_put}
 use Rattle.evp_runner.proofs.moving.+moving.Goals as goal
 
@@ -311,3 +312,29 @@ move_step-returns-in-Many t c =
     IsPut (moved_op image (machine_in plan) step.task.size o (λ s t' later. moved image (machine_in plan) (inside plan step) s t' later)
     c.args.at (c.args.t + step.task.offset) c.args.size) c.move_many.result c.args.out.now c.move_many.new.out in
     subst Put (sym c.in-Many.is) c.move_many.ensures
+
+pub move_elements-side_by_side-requires-clause-there : goal.move_elements-side_by_side-requires-clause-there
+move_elements-side_by_side-requires-clause-there t c =
+    numbers_there c.args.work.now.plan.now (image_in c.args.work.now.sender) c.args.step.now c.args.elements.now c.args.at c.requires.can
+
+pub move_elements-overflow_cast-n : goal.move_elements-overflow_cast-n
+move_elements-overflow_cast-n t c =
+    let some = some_bytes c.args.work.now.plan.now.pointer c.args.step.now.task.size c.args.elements.now.part _ c.args.work.now.wide
+    c.requires.can.sound in
+    let more = mul-le-mul_left c.args.n some in
+    let room = c.requires.room in
+    omega (arith, room, more)
+
+pub move_elements-overflow_cast-k-end : goal.move_elements-overflow_cast-k-end
+move_elements-overflow_cast-k-end t c =
+    let some = some_bytes c.args.work.now.plan.now.pointer c.args.step.now.task.size c.args.elements.now.part _ c.args.work.now.wide
+    c.requires.can.sound in
+    let more = mul-le-mul_left c.args.n some in
+    let room = c.requires.room in
+    omega (arith, room, more)
+
+pub move_elements-returns-in-Some : goal.move_elements-returns-in-Some
+move_elements-returns-in-Some t c =
+    numbers_moved c.args.work.now.plan.now (image_in c.args.work.now.sender) c.args.step.now c.args.elements.now c.args.at c.args.base
+    c.args.n c.args.size c.in-Some.bytes.now c.args.out.now c.put_numbers.new.out c.in-Some.ensures c.requires.room
+    c.put_numbers.ensures

@@ -24,7 +24,7 @@ use Rattle.evp_plan.specs.Standing.{origin_number, run_count}
 use Rattle.evp_format.specs.Zero.{as_count}
 use Rattle.evp_plan.proofs.Programs.{program_at-steps}
 use Rattle.evp_runner.specs.Pieces.{IsPut}
-use Rattle.evp_runner.specs.StepIn.{inside, CanMove, CanMoveStep, CanMoveList, CanMovePart, AreFew, IsElementThere, IsCountThere}
+use Rattle.evp_runner.specs.StepIn.{inside, CanMove, CanMoveStep, CanMoveList, CanMovePart, AreFew, IsElementThere, BeginsThere, IsCountThere}
 use Rattle.evp_runner.specs.StepIn.{IsSourceThere}
 use Rattle.evp_runner.proofs.Measured.{rest_of, no_rest}
 
@@ -253,6 +253,15 @@ pub element_there : (plan : Planned) (image : Image) (step : Step) (elements : E
     → CanMoveList plan image step elements at → AreFew image at n elements.run → k < n → IsElementThere image at k elements.run
 element_there plan image step elements at n k can few below = run_element plan image step elements.part at n k elements.run can.ready few
     below
+
+pub begins_there : (plan : Planned) (image : Image) (step : Step) (elements : Elements) (at : ℕ) → CanMoveList plan image step elements at
+    → BeginsThere image at elements.run
+begins_there plan image step elements at can = by elements.run can.ready
+  where
+    by : (run : Option Run) → AreElementsThere image at elements.part (λ s. IsReady image (inside plan step) s) run
+        → BeginsThere image at run
+    by None ready = tt
+    by (Some run) ready = ready.begins
 
 pub count_there : (plan : Planned) (image : Image) (step : Step) (elements : Elements) (at : ℕ) → CanMoveList plan image step elements at
     → IsCountThere image at elements.run

@@ -146,6 +146,16 @@ abbrev pub AreFew : Image → ℕ → ℕ → Option Run → Type 0
 AreFew image at n None = ⊤
 AreFew image at n (Some run) = n ≤ run_count image at run
 
+-- the sender's array begins there
+abbrev pub BeginsThere : Image → ℕ → Option Run → Type 0
+BeginsThere image at None = ⊤
+BeginsThere image at (Some run) = IsStartThere image run.pointed (at + run.offset)
+
+-- where its first element stands; 0 stands for none
+abbrev pub first_place : Image → ℕ → Option Run → ℕ
+first_place image at None = 0
+first_place image at (Some run) = run_start image at run
+
 -- numbers of the sender's array stand there
 abbrev pub AreNumbersThere : Image → ℕ → Part → Option Run → Type 0
 AreNumbersThere image at p None = ⊤

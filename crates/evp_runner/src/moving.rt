@@ -17,7 +17,8 @@ ghost use Rattle.evp_wide.specs.Elements.{AreReordered};
 ghost use Rattle.evp_runner.specs.Pieces.{block_of, IsPut, IsPutOver};
 ghost use Rattle.evp_runner.specs.StepIn.{image_in, inside, IsEarlier, IsCountThere};
 ghost use Rattle.evp_runner.specs.StepIn.{IsElementThere, AreFew, IsTextSource, text_source};
-ghost use Rattle.evp_runner.specs.StepIn.{AreNumbersThere, AreSideBySide};
+ghost use Rattle.evp_runner.specs.StepIn.{AreNumbersThere, AreSideBySide, BeginsThere};
+ghost use Rattle.evp_runner.specs.StepIn.{first_place};
 ghost use Rattle.evp_runner.specs.StepIn.{CanMove, CanMoveStep, CanMoveList, CanMovePart};
 
 use crate::reading::{block_there, count_from, count_of, number_from, number_there, start_of};
@@ -379,24 +380,37 @@ fn move_elements(
         put_numbers(work, step.task.size, bytes, out, base);
         return size;
     }
+    let first = first_place(work, at, &elements.run);
     let mut size = size;
     for k in 0..n as usize {
         let t = base + k * step.task.size as usize;
-        let source = source_place(work, at, &elements.run, k);
+        let source = source_place(work, at, &elements.run, first, k);
         size = move_part(work, number, step, &elements.part, source, out, t, size);
     }
     size
 }
 
-// Where element k of the sender's array stands.
-fn source_place(work: &Move, at: usize, run: &Option<Run>, k: usize) -> Option<usize>
+// Where the first element of the sender's array stands, where it has one.
+fn first_place(work: &Move, at: usize, run: &Option<Run>) -> usize
     requires at_inside { at ≤ length work.now.sender.bytes.now }
+    requires there { BeginsThere (image_in work.now.sender) at run.now }
+    ensures { result ≡ first_place (image_in work.now.sender) at run.now }
+{
+    match run {
+        None => 0,
+        Some(run) => start_of(&work.sender, at, run),
+    }
+}
+
+// Where element k of the sender's array stands, by the place of the first.
+fn source_place(work: &Move, at: usize, run: &Option<Run>, first: usize, k: usize) -> Option<usize>
     requires there { IsElementThere (image_in work.now.sender) at k run.now }
+    requires first { first ≡ first_place (image_in work.now.sender) at run.now }
     ensures { result ≡ source_place (image_in work.now.sender) at run.now k }
 {
     match run {
         None => None,
-        Some(run) => Some(start_of(&work.sender, at, run) + k * run.stride as usize),
+        Some(run) => Some(first + k * run.stride as usize),
     }
 }
 

@@ -12,7 +12,7 @@ use Rattle.evp_plan.specs.Standing.{origin_number}
 use Rattle.evp_runner.specs.Pieces.{IsPut}
 use Rattle.evp_runner.specs.StepIn.{image_in, inside}
 use Rattle.evp_runner.proofs.Measured.{found_steps, at_index, own_index, some_bytes}
-use Rattle.evp_runner.proofs.Moved.{rest_moved, step_fits, step_next, moving_end, steps_end, record_moved, can_move_each, element_one}
+use Rattle.evp_runner.proofs.Moved.{begins_there, rest_moved, step_fits, step_next, moving_end, steps_end, record_moved, can_move_each, element_one}
 use Rattle.evp_runner.proofs.Moved.{one_grows, element_fits, element_moved, elements_end, can_move_part, few_of, most_of, element_room}
 use Rattle.evp_runner.proofs.Moved.{list_moved, many_fits, many_put}
 use Rattle.evp_runner.proofs.SideBySide.{numbers_there, numbers_moved, side_long, side_width, side_whole}
@@ -338,3 +338,7 @@ move_elements-returns-in-Some t c =
     numbers_moved c.args.work.now.plan.now (image_in c.args.work.now.sender) c.args.step.now c.args.elements.now c.args.at c.args.base
     c.args.n c.args.size c.in-Some.bytes.now c.args.out.now c.put_numbers.new.out c.in-Some.ensures c.requires.room
     c.put_numbers.ensures
+
+pub move_elements-first_place-first-requires-clause-there : goal.move_elements-first_place-first-requires-clause-there
+move_elements-first_place-first-requires-clause-there t c =
+    begins_there c.args.work.now.plan.now (image_in c.args.work.now.sender) c.args.step.now c.args.elements.now c.args.at c.requires.can

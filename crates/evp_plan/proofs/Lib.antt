@@ -16,5 +16,6 @@ pub mod Painting
 pub mod Gathered
 pub mod Painted
 pub mod Compiled
+mod QuietExamples
 pub mod QuietLists
 pub mod QuietSteps

@@ -1,4 +1,5 @@
 mod Measured
+mod MidPut
 mod Moved
 mod Passes
 mod Residues

@@ -92,10 +92,8 @@ fn put_digits(out: &mut [u8], t: usize, order: Order, size: u32, number: i128)
     requires inside { t + size ≤ length out.old }
     ensures { out.new ≡ put_at t (digits order size number) out.old }
 {
-    let mut word = [0; 8];
-    let word = &mut word[..size as usize];
-    put_number(word, order, size, low(number, size) as i128);
-    put_bytes(out, t, word);
+    let place = &mut out[t..t + size as usize];
+    put_number(place, order, size, low(number, size) as i128);
 }
 
 // The pointer to the block at q, or 0.

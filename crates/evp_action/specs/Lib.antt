@@ -1,3 +1,4 @@
 pub mod Outcome
 pub mod Acting
 pub mod Agreement
+pub mod Storing

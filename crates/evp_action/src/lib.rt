@@ -3,6 +3,7 @@
 
 mod acted;
 mod action;
+mod storing;
 
 pub use acted::{Acted, Reason, To};
 pub use action::{Action, Setting};

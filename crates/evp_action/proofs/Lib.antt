@@ -1,1 +1,4 @@
 mod Examples
+mod Replaced
+mod Stored
+mod StoredRecord

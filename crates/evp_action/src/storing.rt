@@ -19,7 +19,8 @@ pub(crate) fn store(format: &Format, field: u16, number: i128, bytes: &mut [u8])
         → IsPacked format.now (with_number field number entries) bytes.new }
     ensures same_length { length bytes.new ≡ length bytes.old }
 {
-    let target = &format.root().fields.as_slice()[usize::from(field)];
+    let last = format.types().len() - 1;
+    let target = format.field(last as u16, field);
     let at = target.offset as usize;
     let word = &mut bytes[at..at + target.size as usize];
     put_number(word, format.order(), target.size, number);

@@ -2,3 +2,4 @@ mod Examples
 mod Replaced
 mod Stored
 mod StoredRecord
+mod PackedRecords

@@ -1,8 +1,8 @@
 -- A number stored in a packed record: the record is packed from the fields with that number.
-use Rattle.std.proofs.Common.{◌≡◌, ◌≢◌, ℕ, zero, suc, ◌+◌, ◌-◌, ◌^◌, ◌≤◌, ◌<◌, ℤ, List, [], ◌∷◌, ◌++◌, length, Some, None, refl, sym, ap, ◌∙◌, subst}
-use Rattle.std.proofs.Common.{arith, IsTrue}
-use Rattle.std.specs.Prelude.{slice_get, Option, replicate}
-use Rattle.evp_action.proofs.Replaced.{piece_at, put_first}
+use Rattle.std.proofs.Common.{◌≡◌, ◌≢◌, ℕ, zero, suc, ◌+◌, ◌≤◌, ℤ, List, [], ◌∷◌, ◌++◌, length, Some, None, refl, sym, ap, ◌∙◌, subst}
+use Rattle.std.proofs.Common.{arith}
+use Rattle.std.specs.Prelude.{Option}
+use Rattle.evp_action.proofs.Replaced.{put_first}
 use Rattle.evp_action.specs.Acting.{with_number}
 use Rattle.evp_base.proofs.Numbers.{length-digits}
 use Rattle.evp_base.specs.declared.kind.Kind.{Kind}
@@ -11,9 +11,9 @@ use Rattle.evp_format.specs.declared.field.Field.{Field}
 use Rattle.evp_format.specs.declared.field.Shape.{Shape}
 use Rattle.evp_format.specs.declared.field.Shape.TheVariants.{One, Fixed, Counted}
 use Rattle.evp_format.specs.Bytes.{put_at}
-use Rattle.evp_format.specs.Datum.{Datum, num, null, text, list, rec, Entries, empty_record, entry, entry_at, as_number}
+use Rattle.evp_format.specs.Datum.{Datum, num, Entries, empty_record, entry, entry_at, as_number}
 use Rattle.evp_format.specs.Packing.{Machine, Piece, Pieces, one_piece, then_pack, pack_shaped, pack_tree, pack_branches, pack_part, put_pieces}
-use Rattle.evp_format.specs.Tree.{Tree, tree, Branches, no_fields, branch, branch_at, fields_of, Part, number_part, text_part, tree_part}
+use Rattle.evp_format.specs.Tree.{Tree, tree, Branches, no_fields, branch, branch_at, Part, number_part}
 use Rattle.evp_format.specs.Typed.{IsShaped, IsListOf, count_in, IsOfTree, IsOfBranches, IsOfPart}
 use Rattle.evp_record.proofs.Onto.{AreInside, length-put_pieces}
 use Rattle.evp_record.proofs.Pieces.{end_of, Each, AreApart, each_map}

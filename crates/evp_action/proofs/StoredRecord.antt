@@ -1,5 +1,5 @@
 -- A number stored in a packed record of a well laid format.
-use Rattle.std.proofs.Common.{◌≡◌, ◌≢◌, ℕ, zero, suc, ◌+◌, ◌-◌, ◌^◌, ◌≤◌, ◌<◌, ℤ, List, [], ◌∷◌, length, take, Some, refl, sym, ap, ◌∙◌, subst}
+use Rattle.std.proofs.Common.{◌≡◌, ◌≢◌, ℕ, suc, ◌+◌, ◌-◌, ◌≤◌, ℤ, List, length, take, Some, refl, sym, ap, ◌∙◌, subst}
 use Rattle.std.proofs.Common.{arith, IsTrue}
 use Rattle.std.proofs.lemmas.Bool.Decides.{nat_tests}
 use Rattle.std.proofs.lemmas.Int.{ints}
@@ -30,7 +30,7 @@ use Rattle.evp_format.specs.WellLaid.{IsWellLaid, IsNumberIn, extent, shape_exte
 use Rattle.evp_record.proofs.Laid.{LaidAt, laid_at, branch_at-all, inside, size_of_number}
 use Rattle.evp_record.proofs.Onto.{AreInside, inside-placed}
 use Rattle.evp_record.proofs.PackedWhole.{placed_whole}
-use Rattle.evp_record.proofs.Pieces.{end_of, Within, each_map}
+use Rattle.evp_record.proofs.Pieces.{Within, each_map}
 use Rattle.evp_record.proofs.ViewPacked.{length-pack}
 use Rattle.evp_record.specs.Walks.{branches_in}
 

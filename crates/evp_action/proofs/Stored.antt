@@ -12,7 +12,8 @@ use Rattle.evp_format.specs.declared.field.Shape.{Shape}
 use Rattle.evp_format.specs.declared.field.Shape.TheVariants.{One, Fixed, Counted}
 use Rattle.evp_format.specs.Bytes.{put_at}
 use Rattle.evp_format.specs.Datum.{Datum, num, Entries, empty_record, entry, entry_at, as_number}
-use Rattle.evp_format.specs.Packing.{Machine, Piece, Pieces, one_piece, then_pack, pack_shaped, pack_tree, pack_branches, pack_part, put_pieces}
+use Rattle.evp_format.specs.Packing.{Machine, Piece, Pieces, one_piece, then_pack, put_pieces}
+use Rattle.evp_format.specs.Packing.{pack_shaped, pack_tree, pack_branches, pack_part}
 use Rattle.evp_format.specs.Tree.{Tree, tree, Branches, no_fields, branch, branch_at, Part, number_part}
 use Rattle.evp_format.specs.Typed.{IsShaped, IsListOf, count_in, IsOfTree, IsOfBranches, IsOfPart}
 use Rattle.evp_record.proofs.Onto.{AreInside, length-put_pieces}
@@ -125,8 +126,8 @@ field_pieces machine at field part datum size =
     pack_shaped machine field field.shape at datum (λ offset value after. pack_part machine part field.size offset value after) size
 
 -- of a single number that is one piece
-number_pieces : (machine : Machine) (field : Field) (part : Part) (kind : Kind) (at : ℕ) (datum : Datum) (size : ℕ) → part ≡ number_part kind
-    → field.shape ≡ One
+number_pieces : (machine : Machine) (field : Field) (part : Part) (kind : Kind) (at : ℕ) (datum : Datum) (size : ℕ)
+    → part ≡ number_part kind → field.shape ≡ One
     → field_pieces machine at field part datum size ≡ one_piece (at + field.offset) (digits machine.order field.size (as_number datum)) size
 number_pieces machine field part kind at datum size is single =
     ap (λ (shape : Shape). pack_shaped machine field shape at datum
@@ -184,7 +185,8 @@ branches_put machine (branch first part more) at zero n all (entry name datum re
     let is : part ≡ number_part kind = ap (part_found part) found in
     let same : first ≡ field = ap (field_found first) found in
     let Single : Field → Type 0 = λ f. f.shape ≡ One in
-    let Over : Field → Type 0 = λ f. IsPutOver machine at f n (pack_branches machine (branch first part more) at (entry name datum rest) size)
+    let Over : Field → Type 0 = λ f.
+    IsPutOver machine at f n (pack_branches machine (branch first part more) at (entry name datum rest) size)
     (pack_branches machine (branch first part more) at (entry name (num n) rest) size) in
     subst Over same
     (put_field machine at first part kind datum n size (λ after. pack_branches machine more at rest after) is

@@ -34,7 +34,8 @@ use Rattle.evp_record.proofs.Pieces.{Within, each_map}
 use Rattle.evp_record.proofs.ViewPacked.{length-pack}
 use Rattle.evp_record.specs.Walks.{branches_in}
 
-count_not : (c : ℕ) (branches : Branches) → ((j : ℕ) (other : Field) → slice_get (fields_of branches) j ≡ Some other → other.shape ≢ Counted c)
+count_not : (c : ℕ) (branches : Branches)
+    → ((j : ℕ) (other : Field) → slice_get (fields_of branches) j ≡ Some other → other.shape ≢ Counted c)
     → CountNot c branches
 count_not c no_fields none = tt
 count_not c (branch field part rest) none = (none 0 field refl, count_not c rest (λ j other found. none (suc j) other found))
@@ -52,8 +53,8 @@ count_not_set layout k field at none =
     ∙ fields_of-branches_of (trees layout.types) at.type.fields in
     count_not k (branches_in (root_of layout))
     (λ j other found. none j other
-    (ap (option_and_then (λ (type : RecordType). slice_get type.fields j)) at.type_there ∙ ap (λ (fs : List Field). slice_get fs j) (sym fields)
-    ∙ found))
+    (ap (option_and_then (λ (type : RecordType). slice_get type.fields j)) at.type_there
+    ∙ ap (λ (fs : List Field). slice_get fs j) (sym fields) ∙ found))
 
 -- the record of the fields with the number
 pub packed_set : (layout : Layout) (k : ℕ) (n : ℤ) (entries : Entries) (bytes : List ℕ) (field : Field) (kind : Kind) → IsWellLaid layout

@@ -1,6 +1,7 @@
 -- What a pass knows of a cache.
 use Rattle.std.specs.Prelude.{◌≡◌, ◌⊎◌, ℕ, ◌+◌, ◌*◌, ◌≤◌, ◌==◌, Bool, false, List, [], ◌∷◌, ◌++◌}
-use Rattle.std.specs.Prelude.{Option, Some, None, IfSome, length, is_some, slice_get, IsSome, if◌then◌else◌}
+use Rattle.std.specs.Prelude.{Option, Some, None, IfSome, length, is_some, slice_get, IsSome}
+use Rattle.std.specs.Prelude.{if◌then◌else◌}
 use Rattle.std.specs.List.{All}
 use Rattle.evp_format.specs.Layout.{Layout}
 use Rattle.evp_cache.specs.declared.found.Found.{Found}
@@ -11,7 +12,8 @@ pub record Cells : Type 0 where
   pub declared : ℕ
   pub names : List ℕ
 
--- a pair that a pass knows: the numbers of its two formats, the name of the cell that keeps what was found for it, unless the pass does so itself, and what was found
+-- a pair that a pass knows: the numbers of its two formats, the name of the cell that keeps what
+-- was found for it, unless the pass does so itself, and what was found
 pub record Known : Type 0 where
   pub from : ℕ
   pub to : ℕ
@@ -38,7 +40,8 @@ AreApart (k ∷ ks) = (found_for ks k.from k.to ≡ None) × AreApart ks
 abbrev pub IsCellOf : Cells → ℕ → ℕ → ℕ → Type 0
 IsCellOf cells from to name = slice_get cells.names (from * cells.declared + to) ≡ Some name
 
--- the cells are those for these formats: one for each and each of the receivers, which are the first of them
+-- the cells are those for these formats: one for each and each of the receivers, which are the
+-- first of them
 pub record IsCacheOf (cells : Cells) (formats : List Layout) : Type 0 where
   pub receivers : cells.declared ≤ length formats
   pub whole : length cells.names ≡ length formats * cells.declared
@@ -69,15 +72,21 @@ pub record HasAt (ks : List Known) (place from to : ℕ) : Type 0 where
   pub to_is : entry.to ≡ to
   pub first : found_for ks from to ≡ Some entry.found
 
--- what a pass knows after it was asked for a pair and answered what was found: that, all that it knew, and no pair beside
+-- what a pass knows after it was asked for a pair and answered what was found: that, all that it
+-- knew, and no pair beside
 pub record Learned (old new : List Known) (from to : ℕ) (found : Found) : Type 0 where
   pub knows : found_for new from to ≡ Some found
-  pub kept : (a b : ℕ) (earlier : Found) → found_for old a b ≡ Some earlier → found_for new a b ≡ Some earlier
-  pub alone : (a b : ℕ) → found_for old a b ≡ None → IsSome (found_for new a b) → (a ≡ from) × (b ≡ to)
+  pub kept : (a b : ℕ) (earlier : Found) → found_for old a b ≡ Some earlier
+      → found_for new a b ≡ Some earlier
+  pub alone : (a b : ℕ) → found_for old a b ≡ None → IsSome (found_for new a b)
+      → (a ≡ from) × (b ≡ to)
   pub count : length new ≡ length old + (if is_some (found_for old from to) then 0 else 1)
 
--- the pair is at this place: it was known, or is added behind the others with what is right for these formats and kept by the cell of this name or the pass
-pub record IsMeeting (old new : List Known) (from to name : ℕ) (sender receiver : Layout) (place : ℕ) : Type 0 where
+-- the pair is at this place: it was known, or is added behind the others with what is right for
+-- these formats and kept by the cell of this name or the pass
+pub record IsMeeting (old new : List Known) (from to name : ℕ) (sender receiver : Layout)
+    (place : ℕ) : Type 0 where
   pub at : HasAt new place from to
-  pub how : ((new ≡ old) × IsSome (found_for old from to)) ⊎ ((found_for old from to ≡ None) × (new ≡ old ++ at.entry ∷ [])
+  pub how : ((new ≡ old) × IsSome (found_for old from to))
+      ⊎ ((found_for old from to ≡ None) × (new ≡ old ++ at.entry ∷ [])
       × IfSome at.entry.cell (λ cell. cell ≡ name) × IsFound sender receiver at.entry.found)

@@ -1,12 +1,13 @@
 //! What one worker knows of a cache.
-ghost use Rattle.std.specs.Prelude.{◌≡◌, ◌⊎◌, ◌<◌, ◌++◌, ◌∷◌, [], ⊤, ℕ, Some, None, length, slice_get};
-ghost use Rattle.std.specs.Prelude.{IfOk, IfSome, IfNone, OnErr, IsOkAnd, IsSome, MatchResult};
+ghost use Rattle.std.specs.Prelude.{◌≡◌, ◌⊎◌, ◌<◌, ◌++◌, ◌∷◌, [], ⊤, ℕ, Some, None, length, IfOk};
+ghost use Rattle.std.specs.Prelude.{slice_get, IfSome, IfNone, OnErr, IsOkAnd, IsSome, MatchResult};
 ghost use mathlib.Core.Option.{none};
 ghost use types.Logic.{sem};
 ghost use denote.Follow.{follows_so};
 ghost use Rattle.once_cell.specs.Once.{cell_name};
 ghost use Rattle.evp_plan.specs.Counts.{raised};
-ghost use Rattle.evp_cache.specs.Known.{Known, found_for, HasAt, IsMeeting, IsCacheOf, IsFoundFor, IsPassOf, Learned};
+ghost use Rattle.evp_cache.specs.Known.{Known, found_for, HasAt, IsMeeting, IsCacheOf, IsFoundFor};
+ghost use Rattle.evp_cache.specs.Known.{IsPassOf, Learned};
 ghost use Rattle.evp_cache.specs.Met.{kept_of, known_of};
 
 use crate::kept::Kept;

@@ -31,8 +31,8 @@ pub(crate) struct Met {
     pub(crate) own: Option<Box<Kept>>,
 }
 
-// Meets a pair. What its cell keeps serves where it is of these formats; else the pair is built, and
-// kept by the cell where that is empty.
+// Meets a pair. What its cell keeps serves where it is of these formats; else the pair is built,
+// and kept by the cell where that is empty.
 pub(crate) fn meet(
     alloc: Global,
     cell: &OnceBox<Kept>,
@@ -40,7 +40,8 @@ pub(crate) fn meet(
     builds: &mut Builds,
 ) -> Result<Met, Memory>
     ensures met { IfOk result (λ met. IsMet pair.now.from pair.now.to (cell_name cell.now) met) }
-    ensures kept { IfOk result (λ met. IsOf pair.now.sender.now pair.now.receiver.now (kept_of met)) }
+    ensures kept { IfOk result (λ met.
+        IsOf pair.now.sender.now pair.now.receiver.now (kept_of met)) }
     ensures builds { (builds.new ≡ builds.old) ⊎ (builds.new ≡ raised builds.old) }
 {
     let mut note = cell.note();

@@ -1,12 +1,13 @@
 //! Where a pass has what it found for a pair.
-ghost use Rattle.std.specs.Prelude.{◌≡◌, ◌+◌, ◌≤◌, ◌<◌, ◌==◌, ℕ, [], length, get_or, if◌then◌else◌, OnOk, OnErr};
+ghost use Rattle.std.specs.Prelude.{◌≡◌, ◌+◌, ◌≤◌, ◌<◌, ◌==◌, ℕ, [], length, get_or};
+ghost use Rattle.std.specs.Prelude.{if◌then◌else◌, OnOk, OnErr};
 ghost use Rattle.evp_cache.specs.Places.{place_at, IsPlaced, AreAlike};
 
 use std::alloc::{AllocError, Global};
 use std::marker::Model;
 
-// The places of one receiver's pairs, by the sender's number. A place is counted from 1, and 0 where
-// there is none.
+// The places of one receiver's pairs, by the sender's number. A place is counted from 1, and 0
+// where there is none.
 #[derive(Drop)]
 struct Row {
     places: Vec<u32>,

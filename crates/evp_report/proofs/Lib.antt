@@ -1,5 +1,11 @@
+mod Chains
 mod ElementsLeft
 mod Escapes
 mod FieldsLeft
+mod Found
+mod JobParts
 mod ReportExamples
+mod RoundsLeft
+mod RouteFound
+mod ShownTallies
 pub mod Passed

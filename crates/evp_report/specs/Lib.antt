@@ -1,3 +1,4 @@
 pub mod FieldText
 pub mod Passing
 pub mod Report
+pub mod Shown

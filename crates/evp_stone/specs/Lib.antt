@@ -12,3 +12,4 @@ pub mod Route
 pub mod Tallied
 pub mod Tally
 pub mod Through
+pub mod WholeAccounts

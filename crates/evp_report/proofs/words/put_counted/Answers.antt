@@ -1,0 +1,11 @@
+use Rattle.std.proofs.Common.{◌∙◌}
+use Rattle.evp_report.proofs.Chains.{then, cut}
+use Rattle.evp_report.proofs.words.put_counted.Goals as goal
+
+pub returns-in_err-put : goal.returns-in_err-put
+returns-in_err-put g c = cut _ c.in_err-put.ensures c.from_residual.ensures.0
+
+pub returns : goal.returns
+returns g c =
+    let text = c.as_bytes.ensures.value ∙ c.format.ensures.text in
+    then c.in_ok-put.ensures (rw text at c.put-2.ensures)

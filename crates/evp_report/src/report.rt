@@ -1,0 +1,143 @@
+//! The report of a job: each round, and what the last stone of each route did in it.
+ghost use Rattle.std.specs.Prelude.{◌≡◌, Some, map, slice_get};
+ghost use Rattle.std.specs.List.{flat_map};
+ghost use Rattle.evp_depot.specs.Put.{Puts};
+ghost use Rattle.evp_report.specs.Passing.{Passes};
+ghost use Rattle.evp_report.specs.Report.{report, round_lines, route_name};
+ghost use Rattle.evp_report.specs.Report.{source_name, stones_text, told_in, told_of};
+ghost use Rattle.evp_stone.specs.WholeAccounts.{AreAccounts};
+
+use crate::Pieces;
+use crate::account_text::put_account;
+use crate::accounts::round_account;
+use crate::words::put_counted;
+use evp_depot::{PutFault, Sink};
+use evp_graph::Route;
+use evp_stone::{Account, Job};
+
+/// Writes the report of a job, by the accounts of its stones in their order. `Failed` comes where a
+/// write failed; a front of the report may have been put then. It takes no memory.
+pub fn write_report<K: Sink>(job: &Job, accounts: &[Account], sink: &mut K) -> Result<(), PutFault>
+    requires { AreAccounts job.now accounts.now }
+    ensures { Puts K.faults K.put sink.old sink.new (report job.now) result }
+{
+    let mut pieces = Pieces::new();
+    put_rounds(&mut pieces, sink, job, accounts)?;
+    pieces.flush(sink)
+}
+
+// Each round.
+fn put_rounds<K: Sink>(
+    pieces: &mut Pieces,
+    sink: &mut K,
+    job: &Job,
+    accounts: &[Account],
+) -> Result<(), PutFault>
+    requires { AreAccounts job.now accounts.now }
+    ensures { Passes K.faults K.put sink.old sink.new pieces.old pieces.new
+        (report job.now) result }
+{
+    let rounds = job.parts().rounds.as_slice().len();
+    for round in 0..rounds {
+        put_round(pieces, sink, job, accounts, round)?;
+    }
+    Ok(())
+}
+
+// A round's number, and each route in it.
+fn put_round<K: Sink>(
+    pieces: &mut Pieces,
+    sink: &mut K,
+    job: &Job,
+    accounts: &[Account],
+    round: usize,
+) -> Result<(), PutFault>
+    requires { AreAccounts job.now accounts.now }
+    ensures { Passes K.faults K.put sink.old sink.new pieces.old pieces.new
+        (round_lines round (map (told_of job.now) job.now.routes)) result }
+{
+    put_counted(pieces, sink, b"round ", round)?;
+    pieces.put(sink, b"\n")?;
+    put_routes(pieces, sink, job, accounts, round)
+}
+
+// Each route in a round.
+fn put_routes<K: Sink>(
+    pieces: &mut Pieces,
+    sink: &mut K,
+    job: &Job,
+    accounts: &[Account],
+    round: usize,
+) -> Result<(), PutFault>
+    requires { AreAccounts job.now accounts.now }
+    ensures { Passes K.faults K.put sink.old sink.new pieces.old pieces.new
+        (flat_map (λ route. told_in round (told_of job.now route)) job.now.routes) result }
+{
+    for (number, route) in job.parts().routes.as_slice().iter().enumerate() {
+        put_route(pieces, sink, job, accounts, number, route, round)?;
+    }
+    Ok(())
+}
+
+// A route's name, and its account of a round.
+fn put_route<K: Sink>(
+    pieces: &mut Pieces,
+    sink: &mut K,
+    job: &Job,
+    accounts: &[Account],
+    number: usize,
+    route: &Route,
+    round: usize,
+) -> Result<(), PutFault>
+    requires accounts { AreAccounts job.now accounts.now }
+    requires there { slice_get job.now.routes number ≡ Some route.now }
+    ensures { Passes K.faults K.put sink.old sink.new pieces.old pieces.new
+        (told_in round (told_of job.now route.now)) result }
+{
+    let Some(account) = round_account(job, accounts, number, round) else {
+        return Ok(());
+    };
+    put_name(pieces, sink, job, route)?;
+    put_account(pieces, sink, job.parts().formats.as_slice(), account)
+}
+
+// A route's name: its source's, and its stones.
+fn put_name<K: Sink>(
+    pieces: &mut Pieces,
+    sink: &mut K,
+    job: &Job,
+    route: &Route,
+) -> Result<(), PutFault>
+    ensures { Passes K.faults K.put sink.old sink.new pieces.old pieces.new
+        (route_name job.now route.now) result }
+{
+    put_source(pieces, sink, job, usize::from(route.source))?;
+    put_stones(pieces, sink, route.stones.as_slice())
+}
+
+// A source's name.
+fn put_source<K: Sink>(
+    pieces: &mut Pieces,
+    sink: &mut K,
+    job: &Job,
+    source: usize,
+) -> Result<(), PutFault>
+    ensures { Passes K.faults K.put sink.old sink.new pieces.old pieces.new
+        (source_name (slice_get job.now.sources source)) result }
+{
+    match job.parts().sources.as_slice().get(source) {
+        None => Ok(()),
+        Some(source) => pieces.put(sink, source.name.as_bytes()),
+    }
+}
+
+// The stones, each behind a `>`.
+fn put_stones<K: Sink>(pieces: &mut Pieces, sink: &mut K, stones: &[u16]) -> Result<(), PutFault>
+    ensures { Passes K.faults K.put sink.old sink.new pieces.old pieces.new
+        (stones_text stones.now) result }
+{
+    for stone in stones {
+        put_counted(pieces, sink, b">", *stone)?;
+    }
+    Ok(())
+}

@@ -9,3 +9,6 @@ pub mod Sources
 pub mod SourceView
 pub mod Head
 pub mod HeadView
+pub mod TextShape
+pub mod TextView
+pub mod Stated

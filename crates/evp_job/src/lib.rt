@@ -5,12 +5,14 @@ mod fault;
 mod formats;
 mod forms;
 mod head;
+mod job_text;
 mod members;
 mod sources;
 mod types;
 
 pub use fault::JobFault;
 pub use head::{JobHead, ReadJob, read_head};
+pub use job_text::JobText;
 pub use sources::SourceText;
 
 #[cfg(test)]

@@ -12,3 +12,4 @@ pub mod HeadView
 pub mod TextShape
 pub mod TextView
 pub mod Stated
+pub mod Filling

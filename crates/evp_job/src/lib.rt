@@ -2,6 +2,8 @@
 #![tactic(auto)]
 
 mod fault;
+mod files;
+mod fill;
 mod formats;
 mod forms;
 mod head;
@@ -11,6 +13,7 @@ mod sources;
 mod types;
 
 pub use fault::JobFault;
+pub use fill::fill_job;
 pub use head::{JobHead, ReadJob, read_head};
 pub use job_text::JobText;
 pub use sources::SourceText;

@@ -26,8 +26,8 @@ use Rattle.evp_job.specs.declared.fault.JobFault.{JobFault}
 use Rattle.evp_job.specs.declared.fault.JobFault.TheVariants as fault
 use Rattle.evp_job.specs.declared.job_text.JobText.{JobText}
 use Rattle.evp_job.specs.declared.sources.SourceText.{SourceText}
-use Rattle.evp_job.specs.Filling.{bare_source, bare_job, AreFilesOf, all_layouts, own_layouts, sources_with_files, job_with_files}
-use Rattle.evp_job.specs.Filling.{own_layout, numbers_from, owned_with, source_with_file, few_formats, enough_records, enough_from, light_enough, agree}
+use Rattle.evp_job.specs.Filling.{bare_source, bare_job, AreFilesOf, own_layouts, sources_with_files, job_with_files}
+use Rattle.evp_job.specs.Filling.{numbers_from, owned_with, source_with_file, few_formats, enough_from, light_enough, agree}
 use Rattle.evp_job.specs.Stated.{layouts_of, graph_of, IsStated, IsRoundOf}
 use Rattle.evp_job.specs.Steps.{◌>>=◌, only_if}
 use Rattle.evp_job.proofs.FormatPlaces.{stands_behind, sources_there}

@@ -1,9 +1,7 @@
 -- Filling computed: numbers of formats, records, and of two refusals the first.
 use Rattle.std.proofs.Common.{◌≡◌, ℕ, List, [], ◌∷◌, refl, codes, Ok, Err}
 use Rattle.evp_base.specs.declared.order.Order.TheVariants.{Little}
-use Rattle.evp_base.specs.declared.step.Step.TheVariants.{Field}
 use Rattle.evp_action.specs.declared.action.Action.TheVariants.{Split}
-use Rattle.evp_file.specs.declared.file.FileFormat.{FileFormat}
 use Rattle.evp_file.specs.declared.file.FileFormat.TheVariants.{Own, Known}
 use Rattle.evp_file.specs.declared.file.RecordFile.{RecordFile}
 use Rattle.evp_file.specs.File.{file_with, item_of}

@@ -1,12 +1,12 @@
 //! The formats and records of files, as those of a job.
 
-ghost use Rattle.std.specs.Prelude.{◌≡◌, ◌+◌, ◌++◌, ◌∷◌, [], ◌^◌, ◌<◌, ◌≤◌, ℕ, IfOk, OnOk, All, length, map};
+ghost use Rattle.std.specs.Prelude.{◌≡◌, ◌^◌, ◌<◌, ◌≤◌, ◌∷◌, ◌++◌, [], length, map, All, IfOk, OnOk};
 ghost use Rattle.std.specs.List.{flat_map};
 ghost use Rattle.std.specs.Arc.{arc_value};
-ghost use Rattle.evp_file.specs.Whole.{IsWhole};
 ghost use Rattle.evp_job.specs.Filling.{bare_source, bare_job, AreFilesOf, HasRecords};
-ghost use Rattle.evp_job.specs.Filling.{own_layout, own_layouts, all_layouts, number_of, numbers_from, owned_with};
-ghost use Rattle.evp_job.specs.Filling.{source_with_file, sources_with_files, job_with_files};
+ghost use Rattle.evp_job.specs.Filling.{own_layout, own_layouts, all_layouts, number_of};
+ghost use Rattle.evp_job.specs.Filling.{numbers_from, owned_with, source_with_file};
+ghost use Rattle.evp_job.specs.Filling.{sources_with_files, job_with_files};
 ghost use Rattle.evp_job.specs.Stated.{layouts_of};
 ghost use Rattle.evp_stone.specs.Parts.{job_of};
 

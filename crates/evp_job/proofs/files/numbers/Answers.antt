@@ -1,6 +1,6 @@
 use Rattle.std.proofs.Common.{◌≡◌, ◌+◌, ◌++◌, ℕ, List, ◌∷◌, length, refl, sym, ap, ◌∙◌, length-append, arith}
 use Rattle.std.specs.List.{flat_map}
-use Rattle.std.specs.Vec.Iter.{into_iter_items, into_iter_len}
+use Rattle.std.specs.Vec.Iter.{into_iter_items}
 use Rattle.evp_file.specs.declared.file.FileFormat.{FileFormat}
 use Rattle.evp_format.specs.Layout.{Layout}
 use Rattle.evp_job.specs.Filling.{own_layout, number_of, numbers_from}

@@ -1,6 +1,6 @@
-use Rattle.std.proofs.Common.{◌≡◌, ◌++◌, ◌^◌, ◌<◌, List, All, [], ◌∷◌, length, map, refl, sym, ap, subst, ◌∙◌, arith}
+use Rattle.std.proofs.Common.{◌≡◌, ◌++◌, ◌^◌, ◌<◌, All, [], ◌∷◌, length, map, refl, sym, ap, subst, ◌∙◌, arith}
 use Rattle.std.specs.Arc.{arc_value}
-use Rattle.std.specs.Vec.Iter.{into_iter_items, into_iter_len}
+use Rattle.std.specs.Vec.Iter.{into_iter_items}
 use Rattle.std.proofs.lemmas.List.Elements.{All-head, All-tail}
 use Rattle.evp_file.specs.declared.file.FileItem.{FileItem}
 use Rattle.evp_job.specs.Filling.{owned_with}
@@ -16,7 +16,8 @@ loop-item-preserved c =
     let begins : was ≡ item ∷ rest = c.in-Some.ensures.steps.0 in
     let fewer = c.in-Some.ensures.steps.1 in
     let counts = ap length begins in
-    let pushed = c.in_ok-push.ensures ∙ ap (λ owned. map (λ kept. arc_value kept) c.loop-item.records.items ++ owned ∷ []) c.owned_with.ensures in
+    let pushed = c.in_ok-push.ensures
+    ∙ ap (λ owned. map (λ kept. arc_value kept) c.loop-item.records.items ++ owned ∷ []) c.owned_with.ensures in
     record {
       made = moved_more (map (owned_with numbers)) (map (owned_with numbers)) _ _ was rest item (owned_with numbers item)
           (map (owned_with numbers) (into_iter_items c.into_iter-item-iterator.result)) begins refl pushed c.loop-item.invariant.made;

@@ -1,4 +1,4 @@
-use Rattle.std.proofs.Common.{◌≡◌, ◌+◌, ◌<◌, ◌≤◌, ℕ, All, get_or, List, [], ◌∷◌, ◌++◌, length, length-append, refl, sym, subst, arith}
+use Rattle.std.proofs.Common.{◌≡◌, ◌<◌, ◌≤◌, ℕ, All, get_or, List, length, length-append, refl, sym, subst, arith}
 use Rattle.std.specs.List.{flat_map}
 use Rattle.evp_file.specs.declared.file.RecordFile.{RecordFile}
 use Rattle.evp_job.specs.Filling.{own_layouts}

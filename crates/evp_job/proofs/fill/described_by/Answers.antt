@@ -1,4 +1,4 @@
-use Rattle.std.proofs.Common.{◌≡◌, ℕ, List, [], ◌∷◌, length, count_by, refl, sym, ap, suc, ◌∙◌}
+use Rattle.std.proofs.Common.{◌≡◌, List, [], ◌∷◌, length, count_by, refl, sym, ap, suc, ◌∙◌}
 use Rattle.std.specs.List.{flat_map, filter}
 use Rattle.std.proofs.lemmas.List.Sums.{length-filter}
 use Rattle.evp_file.specs.declared.file.FileFormat.{FileFormat}

@@ -1,5 +1,4 @@
-use Rattle.std.proofs.Common.{◌≡◌, List, sym, ap, subst, ◌∙◌}
-use Rattle.evp_file.specs.declared.file.RecordFile.{RecordFile}
+use Rattle.std.proofs.Common.{sym, ap, subst, ◌∙◌}
 use Rattle.evp_stone.specs.Job.{IsJob}
 use Rattle.evp_job.specs.Filling.{bare_job, agree}
 use Rattle.evp_job.proofs.FilledJobs.{filled_is_job}

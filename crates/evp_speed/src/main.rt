@@ -17,9 +17,12 @@ mod convert_lists;
 mod convert_numbers;
 mod evaluation;
 mod expressions;
+mod queue_alone;
+mod queue_two;
 mod random;
 mod record_bytes;
 mod several;
+mod step;
 mod timing;
 mod workload;
 
@@ -28,6 +31,7 @@ use conversion::{Method, Pair, Way, checked};
 use conversions::{Ready, Whole};
 use evaluation::Evaluation;
 use expressions::Expression;
+use queue_alone::Alone;
 use std::env;
 use timing::best;
 use workload::Workload;
@@ -36,7 +40,17 @@ fn main(rt: HostRuntime) -> Result<()> {
     let timed = is_timed(&rt)?;
     tell_checks(&rt, timed)?;
     tell_conversions(&rt, timed)?;
-    tell_expressions(&rt, timed)
+    tell_expressions(&rt, timed)?;
+    let alloc = rt.alloc();
+    let alone = Alone {
+        rt: &rt,
+        alloc,
+        number: 4096,
+    };
+    tell(&rt, timed, &alone)?;
+    let line = queue_two::line(&rt, &rt, alloc, timed)?;
+    println!(rt; "{line}")?;
+    Ok(())
 }
 
 // Whether the first word is `time`.
@@ -59,19 +73,33 @@ fn tell_checks(rt: &HostRuntime, timed: bool) -> Result<()> {
 }
 
 fn tell_conversions(rt: &HostRuntime, timed: bool) -> Result<()> {
+    tell_numbers(rt, timed)?;
+    tell_lists_and_texts(rt, timed)?;
+    tell_alike_and_records(rt, timed)
+}
+
+fn tell_numbers(rt: &HostRuntime, timed: bool) -> Result<()> {
     let alloc = rt.alloc();
     let swapped = convert_numbers::swapped(alloc)?;
     tell_ready(rt, timed, "A", Way::Into, &swapped)?;
     tell_whole(rt, timed, "A_whole", Way::Own, &swapped)?;
     let resized = convert_numbers::resized(alloc)?;
     tell_ready(rt, timed, "B", Way::Into, &resized)?;
-    tell_whole(rt, timed, "B_whole", Way::Own, &resized)?;
+    tell_whole(rt, timed, "B_whole", Way::Own, &resized)
+}
+
+fn tell_lists_and_texts(rt: &HostRuntime, timed: bool) -> Result<()> {
+    let alloc = rt.alloc();
     let numbers = convert_lists::numbers(alloc)?;
     tell_ready(rt, timed, "C", Way::Into, &numbers)?;
     tell_whole(rt, timed, "C_whole", Way::Own, &numbers)?;
     let texts = convert_lists::texts(alloc)?;
     tell_whole(rt, timed, "D", Way::Into, &texts)?;
-    tell_whole(rt, timed, "D_whole", Way::Own, &texts)?;
+    tell_whole(rt, timed, "D_whole", Way::Own, &texts)
+}
+
+fn tell_alike_and_records(rt: &HostRuntime, timed: bool) -> Result<()> {
+    let alloc = rt.alloc();
     let alike = convert_numbers::alike(alloc)?;
     tell_ready(rt, timed, "E", Way::Lent, &alike)?;
     tell_whole(rt, timed, "E_whole", Way::Lent, &alike)?;

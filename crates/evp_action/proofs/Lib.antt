@@ -3,3 +3,7 @@ mod Replaced
 mod Stored
 mod StoredRecord
 mod PackedRecords
+mod Conversions
+mod PackedConversions
+mod Settings
+mod SettingsStored

@@ -94,6 +94,13 @@ transformed (Some layout) into settings value made =
     set_from layout 0 settings value (entries_of (Some made))
     (λ entries. sent All into (rec entries))
 
+-- converts the record into the first format, and that into the second, in which fields are set
+abbrev pub transforms : List Layout → ℕ → ℕ → ℕ → List Setting → ℕ → Datum → Outcome
+transforms formats limit format into settings from value =
+    converting (slice_get formats from) (slice_get formats format) limit value
+    (λ made. converting (slice_get formats format) (slice_get formats into) limit made
+    (transformed (slice_get formats into) into settings made))
+
 -- what an action does with a record, where these are the formats, this is the longest record, and
 -- it sends to so many targets
 abbrev pub act : List Layout → ℕ → Action → ℕ → ℕ → Datum → Outcome
@@ -104,9 +111,7 @@ act formats limit (Router format choose) targets from value =
     converting (slice_get formats from) (slice_get formats format) limit value
     (λ made. then_number None (expression.value choose.tree made) (routed targets format made))
 act formats limit (Transform format into set) targets from value =
-    converting (slice_get formats from) (slice_get formats format) limit value
-    (λ made. converting (slice_get formats format) (slice_get formats into) limit made
-    (transformed (slice_get formats into) into set.items made))
+    transforms formats limit format into set.items from value
 act formats limit Split targets from value = sent All from value
 act formats limit (Terminal format) targets from value =
     converting (slice_get formats from) (slice_get formats format) limit value (arrived format)

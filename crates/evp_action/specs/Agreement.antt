@@ -1,5 +1,5 @@
 -- Actions that agree with the formats of a job.
-use Rattle.std.specs.Prelude.{◌≡◌, ◌≢◌, ℕ, ◌-◌, ◌<◌, List, length, slice_get, Some, All}
+use Rattle.std.specs.Prelude.{◌≡◌, ◌≢◌, ℕ, ◌-◌, ◌^◌, ◌<◌, ◌≤◌, List, length, slice_get, Some, All}
 use Rattle.evp_action.specs.declared.action.Action.{Action}
 use Rattle.evp_action.specs.declared.action.Action.TheVariants.{Filter, Router, Transform, Split}
 use Rattle.evp_action.specs.declared.action.Action.TheVariants.{Terminal}
@@ -39,15 +39,24 @@ pub record IsSetting (formats : List Layout) (declared format into : ℕ) (setti
     pub into_it : IsDeclared formats declared into layout
     pub settable : IsSettable layout setting.field
 
+-- a transform's formats are declared, its expressions are bound to the first, and the fields that it
+-- sets, which have numbers below 2^16, may be set in the second
+pub record AreSettings (formats : List Layout) (declared format into : ℕ) (settings : List Setting) :
+    Type 0 where
+  pub layout : Layout
+  pub second : Layout
+  pub first_there : IsDeclared formats declared format layout
+  pub second_there : IsDeclared formats declared into second
+  pub each : All (IsSetting formats declared format into) settings
+  pub few : length settings ≤ 2 ^ 16
+
 -- formats that an action names are declared, expressions are bound to its first format, and fields
 -- that are set may be
 abbrev pub Agrees : List Layout → ℕ → Action → Type 0
 Agrees formats declared (Filter format test) = Binds formats declared format test
 Agrees formats declared (Router format choose) = Binds formats declared format choose
 Agrees formats declared (Transform format into set) =
-    (layout : Layout) × (second : Layout) × IsDeclared formats declared format layout
-    × IsDeclared formats declared into second
-    × All (IsSetting formats declared format into) set.items
+    AreSettings formats declared format into set.items
 Agrees formats declared Split = Unit {0}
 Agrees formats declared (Terminal format) = (layout : Layout)
     × IsDeclared formats declared format layout

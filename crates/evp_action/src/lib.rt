@@ -2,8 +2,14 @@
 #![tactic(auto)]
 
 mod acted;
+mod acting;
 mod action;
+mod converting;
+mod deciding;
+mod refusal;
+mod setting;
 mod storing;
 
 pub use acted::{Acted, Reason, To};
+pub use acting::act;
 pub use action::{Action, Setting};

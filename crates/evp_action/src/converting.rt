@@ -1,0 +1,213 @@
+//! Records in the format that an action names.
+ghost use Rattle.std.specs.Prelude.{◌≡◌, ◌<◌, ◌^◌, IfOk, IfErr, Some, length};
+ghost use Rattle.std.specs.Arc.{arc_value};
+ghost use Rattle.std.specs.Cow.{cow_slice_items, IsBorrowedSlice};
+ghost use Rattle.evp_action.specs.Asking.{Keeps, AsksOnly, BuildsFor};
+ghost use Rattle.evp_action.specs.Converted.{CanAsk, IsInto, IsPackedInto, IsCause, IsClash};
+ghost use Rattle.evp_action.specs.Converted.{plan_of, fault_reason, spare};
+ghost use Rattle.evp_action.specs.Converted.{IsPackedConversion};
+ghost use Rattle.evp_action.specs.Performed.{HasValue};
+ghost use Rattle.evp_cache.specs.Known.{IsFoundFor};
+ghost use Rattle.evp_format.specs.Converting.{convert};
+ghost use Rattle.evp_format.specs.Datum.{Datum};
+ghost use Rattle.evp_format.specs.Layout.{Layout};
+ghost use Rattle.evp_plan.specs.Planned.{IsPlanFrom, StandsFor};
+ghost use Rattle.evp_record.specs.Owned.{HasValueIn, owned_of};
+ghost use Rattle.evp_record.specs.Record.{value_of};
+ghost use Rattle.evp_runner.specs.Running.{IsRunFault};
+
+use crate::Reason;
+use crate::refusal::Refusal;
+use evp_base::Memory;
+use evp_cache::{CachePass, Found, PlanCache};
+use evp_format::{Format, path_of};
+use evp_plan::{Builds, Plan};
+use evp_record::{Checked, Owned};
+use evp_runner::{RunFault, pass, run};
+use std::alloc::{AllocError, Global};
+use std::borrow::CowSlice;
+use std::sync::Arc;
+
+// What conversions are made by: the formats, the cache of their plans, and the length of the
+// longest record.
+#[derive(Drop)]
+pub(crate) struct Converter<'a> {
+    pub formats: &'a [Format],
+    pub cache: &'a PlanCache,
+    pub limit: u32,
+}
+
+impl<'a> Converter<'a> {
+    // The record in the format of this number: itself where that is the number of its own.
+    pub fn convert(
+        &self,
+        alloc: Global,
+        known: &mut CachePass,
+        builds: &mut Builds,
+        item: &Arc<Owned, Global>,
+        to: u16,
+    ) -> Result<Arc<Owned, Global>, Refusal>
+        requires ask { CanAsk self.now.cache.now self.now.formats.now known.old (arc_value item.now).format to }
+        requires has { HasValueIn self.now.formats.now (arc_value item.now) }
+        ensures made { IfOk result (λ made. (value : Datum)
+            → HasValue self.now.formats.now (arc_value item.now) value
+            → IsInto self.now.formats.now (arc_value item.now).format to self.now.limit value (arc_value made)) }
+        ensures cause { IfErr result (λ cause. (value : Datum)
+            → HasValue self.now.formats.now (arc_value item.now) value
+            → IsCause self.now.formats.now (arc_value item.now).format to self.now.limit value cause) }
+        ensures kept { Keeps self.now.cache.now self.now.formats.now known.old known.new }
+        ensures asked { AsksOnly (arc_value item.now).format to known.old known.new }
+        ensures builds { BuildsFor (spare result) known.old known.new builds.old builds.new }
+    {
+        let from = item.format();
+        let found = known.get(alloc, self.cache, self.formats, from, to, builds)?;
+        self.converted(alloc, found, item, to)
+    }
+
+    // The record by what was found for the pair of its format and that of this number.
+    fn converted(
+        &self,
+        alloc: Global,
+        found: &Found,
+        item: &Arc<Owned, Global>,
+        to: u16,
+    ) -> Result<Arc<Owned, Global>, Refusal>
+        requires found { IsFoundFor self.now.formats.now (arc_value item.now).format to found.now }
+        requires has { HasValueIn self.now.formats.now (arc_value item.now) }
+        ensures made { IfOk result (λ made. (value : Datum)
+            → HasValue self.now.formats.now (arc_value item.now) value
+            → IsInto self.now.formats.now (arc_value item.now).format to self.now.limit value (arc_value made)) }
+        ensures cause { IfErr result (λ cause. (value : Datum)
+            → HasValue self.now.formats.now (arc_value item.now) value
+            → IsCause self.now.formats.now (arc_value item.now).format to self.now.limit value cause) }
+    {
+        let plan = plan_in(found)?;
+        match pass(alloc, plan, item.checked(self.formats), self.limit) {
+            Ok(bytes) => Ok(handed_on(alloc, item, bytes, to)?),
+            Err(fault) => {
+                let receiver = &self.formats[usize::from(to)];
+                Err(Refusal::Cause(fault_reason(alloc, receiver, fault)?))
+            }
+        }
+    }
+
+    // The packed record of the format of this number.
+    pub fn packed(
+        &self,
+        alloc: Global,
+        known: &mut CachePass,
+        builds: &mut Builds,
+        item: &Owned,
+        to: u16,
+    ) -> Result<Vec<u8>, Refusal>
+        requires ask { CanAsk self.now.cache.now self.now.formats.now known.old item.now.format to }
+        requires has { HasValueIn self.now.formats.now item.now }
+        ensures made { IfOk result (λ bytes. (value : Datum)
+            → HasValue self.now.formats.now item.now value
+            → IsPackedInto self.now.formats.now item.now.format to self.now.limit value bytes.items) }
+        ensures cause { IfErr result (λ cause. (value : Datum)
+            → HasValue self.now.formats.now item.now value
+            → IsCause self.now.formats.now item.now.format to self.now.limit value cause) }
+        ensures kept { Keeps self.now.cache.now self.now.formats.now known.old known.new }
+        ensures asked { AsksOnly item.now.format to known.old known.new }
+        ensures builds { BuildsFor (spare result) known.old known.new builds.old builds.new }
+    {
+        let from = item.format();
+        let found = known.get(alloc, self.cache, self.formats, from, to, builds)?;
+        self.packed_by(alloc, found, item, to)
+    }
+
+    // The packed record by what was found for the pair of its format and that of this number.
+    fn packed_by(
+        &self,
+        alloc: Global,
+        found: &Found,
+        item: &Owned,
+        to: u16,
+    ) -> Result<Vec<u8>, Refusal>
+        requires found { IsFoundFor self.now.formats.now item.now.format to found.now }
+        requires has { HasValueIn self.now.formats.now item.now }
+        ensures made { IfOk result (λ bytes. (value : Datum)
+            → HasValue self.now.formats.now item.now value
+            → IsPackedInto self.now.formats.now item.now.format to self.now.limit value bytes.items) }
+        ensures cause { IfErr result (λ cause. (value : Datum)
+            → HasValue self.now.formats.now item.now value
+            → IsCause self.now.formats.now item.now.format to self.now.limit value cause) }
+    {
+        let plan = plan_in(found)?;
+        let checked = item.checked(self.formats);
+        let bytes = checked.bytes();
+        match packed_record(alloc, plan, checked, bytes, self.limit) {
+            Ok(packed) => Ok(packed),
+            Err(fault) => {
+                let receiver = &self.formats[usize::from(to)];
+                Err(Refusal::Cause(fault_reason(alloc, receiver, fault)?))
+            }
+        }
+    }
+}
+
+// The plan that was found, or the clash.
+fn plan_in(found: &Found) -> Result<&Plan, Refusal>
+    ensures plan { IfOk result (λ plan. plan_of found.now ≡ Some plan.now) }
+    ensures clash { IfErr result (λ cause. IsClash found.now cause) }
+{
+    match found {
+        Found::Plan(plan) => Ok(plan),
+        Found::Clash(path) => Err(Refusal::Cause(Reason::Clash(path.clone()?))),
+    }
+}
+
+// The packed conversion of a record, which has these bytes.
+fn packed_record(
+    alloc: Global,
+    plan: &Plan,
+    item: Checked<'_>,
+    bytes: &[u8],
+    limit: u32,
+) -> Result<Vec<u8>, RunFault>
+    requires own { bytes.now ≡ item.bytes }
+    requires plan_from { IsPlanFrom plan.now item.layout }
+    ensures packed { IfOk result (λ packed. (to : Layout) → StandsFor plan.now item.entry.layout to
+        → IsPackedConversion item.entry to limit packed.items) }
+    ensures fault { IfErr result (λ fault. (to : Layout) → StandsFor plan.now item.entry.layout to
+        → IsRunFault fault (convert to (value_of item.entry) limit)) }
+{
+    let _types = item.format().types();
+    run(alloc, plan, item, limit)
+}
+
+// Why a record whose conversion has this fault is refused.
+fn fault_reason(alloc: Global, receiver: &Format, fault: RunFault) -> Result<Reason, Memory>
+    ensures { IfOk result (λ reason. fault_reason receiver.now fault ≡ Some reason) }
+{
+    match fault {
+        RunFault::Unfit(place) => Ok(Reason::Unfit(path_of(alloc, receiver, &place)?)),
+        RunFault::Large(place) => Ok(Reason::Large(path_of(alloc, receiver, &place)?)),
+        RunFault::Memory => Err(Memory),
+    }
+}
+
+// A record of the format of this number: the item itself where its own bytes are lent and its
+// format has this number, else one of these bytes.
+fn handed_on(
+    alloc: Global,
+    item: &Arc<Owned, Global>,
+    bytes: CowSlice<'_, u8>,
+    to: u16,
+) -> Result<Arc<Owned, Global>, Memory>
+    requires short { length (cow_slice_items bytes) < 2 ^ 32 }
+    requires own { IsBorrowedSlice bytes → cow_slice_items bytes ≡ (arc_value item.now).bytes }
+    ensures { IfOk result (λ made. arc_value made ≡ owned_of to (cow_slice_items bytes.entry)) }
+{
+    let bytes = match bytes {
+        CowSlice::Borrowed(own) => {
+            if item.format() == to {
+                return Ok(Arc::try_clone(item)?);
+            }
+            Vec::from_slice(alloc, own)?
+        }
+        CowSlice::Owned(bytes) => bytes,
+    };
+    Ok(Arc::new(alloc, Owned::new(to, bytes))?)
+}

@@ -1,0 +1,68 @@
+//! Filters and routers: where a record goes by the value of an expression.
+ghost use Rattle.std.specs.Prelude.{◌≡◌, Some, None, slice_get};
+ghost use Rattle.std.specs.Arc.{arc_value};
+ghost use Rattle.evp_action.specs.Acting.{reason_of, then_number, filtered, routed};
+ghost use Rattle.evp_action.specs.Performed.{HasValue, IsActed};
+ghost use Rattle.evp_eval.specs.Value.{value as value_over};
+ghost use Rattle.evp_format.specs.Datum.{Datum};
+ghost use Rattle.evp_record.specs.Owned.{HasValueIn};
+
+use crate::{Acted, Reason, To};
+use evp_eval::{Bound, EvalFault, eval};
+use evp_format::Format;
+use evp_record::Owned;
+use std::alloc::Global;
+use std::sync::Arc;
+
+// Sends the record on where the test isn't 0.
+pub(crate) fn filtered(formats: &[Format], test: &Bound, item: Arc<Owned, Global>) -> Acted
+    requires bound { slice_get formats.now (arc_value item).format ≡ Some test.now.layout }
+    requires has { HasValueIn formats.now (arc_value item) }
+    ensures { (value : Datum) → HasValue formats.now (arc_value item) value
+        → IsActed formats.now (then_number None (value_over test.now.tree value)
+        (filtered (arc_value item).format value)) result }
+{
+    let number = match eval(test, item.checked(formats)) {
+        Ok(number) => number,
+        Err(fault) => return Acted::Refused(reason_of(None, fault)),
+    };
+    if number == 0 {
+        return Acted::Dropped;
+    }
+    Acted::Sent(To::All, item)
+}
+
+// Sends the record to the target at the position that the expression gives, where there is one.
+pub(crate) fn routed(
+    formats: &[Format],
+    targets: u16,
+    choose: &Bound,
+    item: Arc<Owned, Global>,
+) -> Acted
+    requires bound { slice_get formats.now (arc_value item).format ≡ Some choose.now.layout }
+    requires has { HasValueIn formats.now (arc_value item) }
+    ensures { (value : Datum) → HasValue formats.now (arc_value item) value
+        → IsActed formats.now (then_number None (value_over choose.now.tree value)
+        (routed targets (arc_value item).format value)) result }
+{
+    let number = match eval(choose, item.checked(formats)) {
+        Ok(number) => number,
+        Err(fault) => return Acted::Refused(reason_of(None, fault)),
+    };
+    if number < 0 || number >= i128::from(targets) {
+        return Acted::Dropped;
+    }
+    Acted::Sent(To::One(number as u16), item)
+}
+
+// Why a record is refused where an expression has no value: that of the setting of this number, or
+// of a filter or router.
+pub(crate) fn reason_of(setting: Option<u16>, fault: EvalFault) -> Reason
+    ensures { result ≡ reason_of setting fault }
+{
+    match fault {
+        EvalFault::Overflow(at) => Reason::Overflow(setting, at),
+        EvalFault::ZeroDivide(at) => Reason::ZeroDivide(setting, at),
+        EvalFault::Index(at) => Reason::Index(setting, at),
+    }
+}

@@ -7,3 +7,5 @@ mod Conversions
 mod PackedConversions
 mod Settings
 mod SettingsStored
+mod Works
+mod Transforms

@@ -41,8 +41,8 @@ packed_into formats owned to limit held found plan bytes value lent is there pac
     let known = has_plan formats owned to held found plan lent is there in
     let done = packs known.receiver known.stands in
     record {
-      entries = done.fields;
+      fields = done.fields;
       converted = converted_by formats owned.format to limit held plan value (rec done.fields) done.size known
         (value_is formats owned held value lent has) done.converted;
-      packed = done.packed;
+      packed = record { layout = known.receiver; there = known.receiver_is; laid = known.stands.laid; packed = done.packed };
     }

@@ -13,6 +13,7 @@ use Rattle.evp_action.specs.declared.action.Setting.{Setting}
 use Rattle.evp_action.specs.Outcome.{Outcome, sent, dropped, arrived, refused}
 use Rattle.evp_base.specs.Numbers.{is_in_range}
 use Rattle.evp_base.specs.declared.step.Step.TheVariants as step
+use Rattle.evp_eval.specs.Bound.{BoundTree}
 use Rattle.evp_eval.specs.Value as expression
 use Rattle.evp_eval.specs.declared.fault.EvalFault.{EvalFault}
 use Rattle.evp_eval.specs.declared.fault.EvalFault.TheVariants as fault
@@ -94,6 +95,23 @@ transformed (Some layout) into settings value made =
     set_from layout 0 settings value (entries_of (Some made))
     (λ entries. sent All into (rec entries))
 
+-- receives the record in this format
+abbrev pub receives : List Layout → ℕ → ℕ → ℕ → Datum → Outcome
+receives formats limit format from value =
+    converting (slice_get formats from) (slice_get formats format) limit value (arrived format)
+
+-- sends it on in this format where the test isn't 0
+abbrev pub filters : List Layout → ℕ → ℕ → BoundTree → ℕ → Datum → Outcome
+filters formats limit format test from value =
+    converting (slice_get formats from) (slice_get formats format) limit value
+    (λ made. then_number None (expression.value test.tree made) (filtered format made))
+
+-- sends it on in this format to the target at the position of the number, where there is one
+abbrev pub routes : List Layout → ℕ → ℕ → BoundTree → ℕ → ℕ → Datum → Outcome
+routes formats limit format choose targets from value =
+    converting (slice_get formats from) (slice_get formats format) limit value
+    (λ made. then_number None (expression.value choose.tree made) (routed targets format made))
+
 -- converts the record into the first format, and that into the second, in which fields are set
 abbrev pub transforms : List Layout → ℕ → ℕ → ℕ → List Setting → ℕ → Datum → Outcome
 transforms formats limit format into settings from value =
@@ -105,13 +123,10 @@ transforms formats limit format into settings from value =
 -- it sends to so many targets
 abbrev pub act : List Layout → ℕ → Action → ℕ → ℕ → Datum → Outcome
 act formats limit (Filter format test) targets from value =
-    converting (slice_get formats from) (slice_get formats format) limit value
-    (λ made. then_number None (expression.value test.tree made) (filtered format made))
+    filters formats limit format test from value
 act formats limit (Router format choose) targets from value =
-    converting (slice_get formats from) (slice_get formats format) limit value
-    (λ made. then_number None (expression.value choose.tree made) (routed targets format made))
+    routes formats limit format choose targets from value
 act formats limit (Transform format into set) targets from value =
     transforms formats limit format into set.items from value
 act formats limit Split targets from value = sent All from value
-act formats limit (Terminal format) targets from value =
-    converting (slice_get formats from) (slice_get formats format) limit value (arrived format)
+act formats limit (Terminal format) targets from value = receives formats limit format from value

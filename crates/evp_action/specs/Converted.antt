@@ -16,6 +16,7 @@ use Rattle.evp_format.specs.Datum.{Datum, rec, Entries}
 use Rattle.evp_format.specs.Layout.{Layout}
 use Rattle.evp_format.specs.Path.{path_of}
 use Rattle.evp_format.specs.Viewing.{view}
+use Rattle.evp_format.specs.WellLaid.{IsWellLaid}
 use Rattle.evp_plan.specs.Planned.{Planned}
 use Rattle.evp_record.specs.OwnedBytes.{OwnedBytes}
 use Rattle.evp_record.specs.Record.{Record, value_of}
@@ -56,12 +57,20 @@ pub record IsPackedConversion (held : Record) (to : Layout) (limit : ℕ) (bytes
     pub converted : convert to (value_of held) limit ≡ made (rec fields) size
     pub packed : IsPacked to fields bytes
 
+-- a packed record of the format of this number, which is there
+pub record IsPackedIn (formats : List Layout) (format : ℕ) (fields : Entries) (bytes : List ℕ) :
+    Type 0 where
+  pub layout : Layout
+  pub there : slice_get formats format ≡ Some layout
+  pub laid : IsWellLaid layout
+  pub packed : IsPacked layout fields bytes
+
 -- a packed record of the format of the second number, which has the conversion of the value
 pub record IsPackedInto (formats : List Layout) (from to limit : ℕ) (value : Datum)
     (bytes : List ℕ) : Type 0 where
-  pub entries : Entries
-  pub converted : IsConverted formats from to limit value (rec entries)
-  pub packed : IsPacked converted.receiver entries bytes
+  pub fields : Entries
+  pub converted : IsConverted formats from to limit value (rec fields)
+  pub packed : IsPackedIn formats to fields bytes
 
 -- the record is refused for this cause, whatever is to be done with the conversion. Nothing is said
 -- of want of memory

@@ -6,3 +6,4 @@ pub mod Performed
 pub mod Storing
 pub mod Converted
 pub mod Settings
+pub mod Working

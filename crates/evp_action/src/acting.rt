@@ -1,20 +1,20 @@
 //! What an action does with a record.
-ghost use Rattle.std.specs.Prelude.{◌≡◌, ◌<◌, IfOk, IfErr, IsErr, if◌then◌else◌, is_err, length};
+ghost use Rattle.std.specs.Prelude.{IfOk, if◌then◌else◌, is_err};
 ghost use Rattle.std.specs.Arc.{arc_value};
-ghost use Rattle.evp_action.specs.Acting.{act, transforms};
-ghost use Rattle.evp_action.specs.Agreement.{Agrees, AreSettings};
-ghost use Rattle.evp_action.specs.Asking.{pairs_of, transform_pairs, Keeps, Asks, BuildsFor};
-ghost use Rattle.evp_action.specs.Converted.{IsRefused, spare};
+ghost use Rattle.evp_action.specs.Acting.{act};
+ghost use Rattle.evp_action.specs.Agreement.{Agrees};
+ghost use Rattle.evp_action.specs.Asking.{pairs_of, Keeps, Asks, BuildsFor};
 ghost use Rattle.evp_action.specs.Performed.{HasValue, IsActed};
+ghost use Rattle.evp_action.specs.Working.{Works};
 ghost use Rattle.evp_cache.specs.Known.{IsCacheOf, IsPassOf};
 ghost use Rattle.evp_format.specs.Datum.{Datum};
 ghost use Rattle.evp_record.specs.Owned.{HasValueIn};
 
 use crate::converting::Converter;
-use crate::deciding::{filtered, routed};
+use crate::deciding::{filter, receive, route};
 use crate::refusal::Refusal;
-use crate::setting::set_fields;
-use crate::{Acted, Action, Setting, To};
+use crate::transforming::transform;
+use crate::{Acted, Action, To};
 use evp_base::Memory;
 use evp_cache::{CachePass, PlanCache};
 use evp_format::Format;
@@ -80,67 +80,24 @@ fn acted(
     requires pass { IsPassOf converter.now.cache.now converter.now.formats.now pass.old }
     requires agrees { Agrees converter.now.formats.now converter.now.cache.now.declared action.now }
     requires item { HasValueIn converter.now.formats.now (arc_value item.now) }
-    ensures acts { IfOk result (λ acted. (value : Datum)
-        → HasValue converter.now.formats.now (arc_value item.now) value
-        → IsActed converter.now.formats.now (act converter.now.formats.now converter.now.limit action.now targets (arc_value item.now).format value) acted) }
-    ensures cause { IfErr result (λ cause. (value : Datum)
-        → HasValue converter.now.formats.now (arc_value item.now) value
-        → IsRefused (act converter.now.formats.now converter.now.limit action.now targets (arc_value item.now).format value) cause) }
-    ensures kept { Keeps converter.now.cache.now converter.now.formats.now pass.old pass.new }
-    ensures asked { (value : Datum) → HasValue converter.now.formats.now (arc_value item.now) value
-        → Asks (pairs_of converter.now.formats.now converter.now.limit action.now (arc_value item.now).format value) pass.old pass.new }
-    ensures builds { BuildsFor (spare result) pass.old pass.new builds.old builds.new }
+    ensures { Works converter.now.cache.now converter.now.formats.now (arc_value item.now)
+        (act converter.now.formats.now converter.now.limit action.now targets
+        (arc_value item.now).format)
+        (pairs_of converter.now.formats.now converter.now.limit action.now
+        (arc_value item.now).format) pass.old pass.new builds.old builds.new result }
 {
     match action {
         Action::Split => Ok(Acted::Sent(To::All, Arc::try_clone(item)?)),
-        Action::Terminal { format } => {
-            let received = converter.convert(alloc, pass, builds, item, *format)?;
-            Ok(Acted::Arrived(received))
-        }
+        Action::Terminal { format } => receive(alloc, converter, pass, builds, item, *format),
         Action::Filter { format, test } => {
-            let item = converter.convert(alloc, pass, builds, item, *format)?;
-            Ok(filtered(converter.formats, test, item))
+            filter(alloc, converter, pass, builds, item, *format, test)
         }
         Action::Router { format, choose } => {
-            let item = converter.convert(alloc, pass, builds, item, *format)?;
-            Ok(routed(converter.formats, targets, choose, item))
+            route(alloc, converter, pass, builds, item, *format, targets, choose)
         }
         Action::Transform { format, into, set } => {
-            transform(alloc, converter, pass, builds, item, *format, *into, set.as_slice())
+            let set = set.as_slice();
+            transform(alloc, converter, pass, builds, item, *format, *into, set)
         }
     }
-}
-
-// Converts the record into the two formats one after another, and sets the fields.
-fn transform(
-    alloc: Global,
-    converter: &Converter<'_>,
-    pass: &mut CachePass,
-    builds: &mut Builds,
-    item: &Arc<Owned, Global>,
-    format: u16,
-    into: u16,
-    set: &[Setting],
-) -> Result<Acted, Refusal>
-    requires cache { IsCacheOf converter.now.cache.now converter.now.formats.now }
-    requires pass { IsPassOf converter.now.cache.now converter.now.formats.now pass.old }
-    requires agrees { AreSettings converter.now.formats.now converter.now.cache.now.declared format into set.now }
-    requires item { HasValueIn converter.now.formats.now (arc_value item.now) }
-    ensures acts { IfOk result (λ acted. (value : Datum)
-        → HasValue converter.now.formats.now (arc_value item.now) value
-        → IsActed converter.now.formats.now (transforms converter.now.formats.now converter.now.limit format into set.now (arc_value item.now).format value) acted) }
-    ensures cause { IfErr result (λ cause. (value : Datum)
-        → HasValue converter.now.formats.now (arc_value item.now) value
-        → IsRefused (transforms converter.now.formats.now converter.now.limit format into set.now (arc_value item.now).format value) cause) }
-    ensures kept { Keeps converter.now.cache.now converter.now.formats.now pass.old pass.new }
-    ensures asked { (value : Datum) → HasValue converter.now.formats.now (arc_value item.now) value
-        → Asks (transform_pairs converter.now.formats.now converter.now.limit format into (arc_value item.now).format value) pass.old pass.new }
-    ensures builds { BuildsFor (spare result) pass.old pass.new builds.old builds.new }
-{
-    let made = converter.convert(alloc, pass, builds, item, format)?;
-    let mut bytes = converter.packed(alloc, pass, builds, &made, into)?;
-    let receiver = &converter.formats[usize::from(into)];
-    let seen = made.checked(converter.formats);
-    set_fields(alloc, &seen, receiver, set, bytes.as_mut_slice())?;
-    Ok(Acted::Sent(To::All, Arc::new(alloc, Owned::new(into, bytes))?))
 }

@@ -1,5 +1,5 @@
 //! Records in the format that an action names.
-ghost use Rattle.std.specs.Prelude.{◌≡◌, ◌<◌, ◌^◌, IfOk, IfErr, Some, length};
+ghost use Rattle.std.specs.Prelude.{◌≡◌, ◌<◌, ◌^◌, IfOk, IfErr, Some, length, slice_get};
 ghost use Rattle.std.specs.Arc.{arc_value};
 ghost use Rattle.std.specs.Cow.{cow_slice_items, IsBorrowedSlice};
 ghost use Rattle.evp_action.specs.Asking.{Keeps, AsksOnly, BuildsFor};
@@ -210,4 +210,12 @@ fn handed_on(
         CowSlice::Owned(bytes) => bytes,
     };
     Ok(Arc::new(alloc, Owned::new(to, bytes))?)
+}
+
+// The format of this number.
+pub(crate) fn format_of(formats: &[Format], number: u16) -> &Format
+    requires { number < length formats.now }
+    ensures { slice_get formats.now number ≡ Some result.now }
+{
+    &formats[usize::from(number)]
 }

@@ -1,21 +1,99 @@
-//! Filters and routers: where a record goes by the value of an expression.
-ghost use Rattle.std.specs.Prelude.{◌≡◌, Some, None, slice_get};
+//! Terminals, filters and routers: where a record goes once it is converted.
+ghost use Rattle.std.specs.Prelude.{◌≡◌, [], ◌∷◌, Some, None, slice_get};
 ghost use Rattle.std.specs.Arc.{arc_value};
 ghost use Rattle.evp_action.specs.Acting.{reason_of, then_number, filtered, routed};
+ghost use Rattle.evp_action.specs.Acting.{receives, filters, routes};
+ghost use Rattle.evp_action.specs.Converted.{CanAsk};
 ghost use Rattle.evp_action.specs.Performed.{HasValue, IsActed};
+ghost use Rattle.evp_action.specs.Working.{Works};
 ghost use Rattle.evp_eval.specs.Value.{value as value_over};
 ghost use Rattle.evp_format.specs.Datum.{Datum};
 ghost use Rattle.evp_record.specs.Owned.{HasValueIn};
 
+use crate::converting::Converter;
+use crate::refusal::Refusal;
 use crate::{Acted, Reason, To};
+use evp_cache::CachePass;
 use evp_eval::{Bound, EvalFault, eval};
 use evp_format::Format;
+use evp_plan::Builds;
 use evp_record::Owned;
 use std::alloc::Global;
 use std::sync::Arc;
 
+// Receives the record in the format of this number.
+pub(crate) fn receive(
+    alloc: Global,
+    converter: &Converter<'_>,
+    pass: &mut CachePass,
+    builds: &mut Builds,
+    item: &Arc<Owned, Global>,
+    format: u16,
+) -> Result<Acted, Refusal>
+    requires ask { CanAsk converter.now.cache.now converter.now.formats.now pass.old
+        (arc_value item.now).format format }
+    requires has { HasValueIn converter.now.formats.now (arc_value item.now) }
+    ensures { Works converter.now.cache.now converter.now.formats.now (arc_value item.now)
+        (receives converter.now.formats.now converter.now.limit format
+        (arc_value item.now).format)
+        (λ _. ((arc_value item.now).format, format) ∷ []) pass.old pass.new
+        builds.old builds.new result }
+{
+    let made = converter.convert(alloc, pass, builds, item, format)?;
+    Ok(Acted::Arrived(made))
+}
+
+// Sends the record on in the format of this number where the test isn't 0.
+pub(crate) fn filter(
+    alloc: Global,
+    converter: &Converter<'_>,
+    pass: &mut CachePass,
+    builds: &mut Builds,
+    item: &Arc<Owned, Global>,
+    format: u16,
+    test: &Bound,
+) -> Result<Acted, Refusal>
+    requires ask { CanAsk converter.now.cache.now converter.now.formats.now pass.old
+        (arc_value item.now).format format }
+    requires has { HasValueIn converter.now.formats.now (arc_value item.now) }
+    requires bound { slice_get converter.now.formats.now format ≡ Some test.now.layout }
+    ensures { Works converter.now.cache.now converter.now.formats.now (arc_value item.now)
+        (filters converter.now.formats.now converter.now.limit format test.now
+        (arc_value item.now).format)
+        (λ _. ((arc_value item.now).format, format) ∷ []) pass.old pass.new
+        builds.old builds.new result }
+{
+    let made = converter.convert(alloc, pass, builds, item, format)?;
+    Ok(filtered(converter.formats, test, made))
+}
+
+// Sends the record on in the format of this number, to the target that the expression gives.
+pub(crate) fn route(
+    alloc: Global,
+    converter: &Converter<'_>,
+    pass: &mut CachePass,
+    builds: &mut Builds,
+    item: &Arc<Owned, Global>,
+    format: u16,
+    targets: u16,
+    choose: &Bound,
+) -> Result<Acted, Refusal>
+    requires ask { CanAsk converter.now.cache.now converter.now.formats.now pass.old
+        (arc_value item.now).format format }
+    requires has { HasValueIn converter.now.formats.now (arc_value item.now) }
+    requires bound { slice_get converter.now.formats.now format ≡ Some choose.now.layout }
+    ensures { Works converter.now.cache.now converter.now.formats.now (arc_value item.now)
+        (routes converter.now.formats.now converter.now.limit format choose.now targets
+        (arc_value item.now).format)
+        (λ _. ((arc_value item.now).format, format) ∷ []) pass.old pass.new
+        builds.old builds.new result }
+{
+    let made = converter.convert(alloc, pass, builds, item, format)?;
+    Ok(routed(converter.formats, targets, choose, made))
+}
+
 // Sends the record on where the test isn't 0.
-pub(crate) fn filtered(formats: &[Format], test: &Bound, item: Arc<Owned, Global>) -> Acted
+fn filtered(formats: &[Format], test: &Bound, item: Arc<Owned, Global>) -> Acted
     requires bound { slice_get formats.now (arc_value item).format ≡ Some test.now.layout }
     requires has { HasValueIn formats.now (arc_value item) }
     ensures { (value : Datum) → HasValue formats.now (arc_value item) value
@@ -33,7 +111,7 @@ pub(crate) fn filtered(formats: &[Format], test: &Bound, item: Arc<Owned, Global
 }
 
 // Sends the record to the target at the position that the expression gives, where there is one.
-pub(crate) fn routed(
+fn routed(
     formats: &[Format],
     targets: u16,
     choose: &Bound,

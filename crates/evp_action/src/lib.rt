@@ -9,6 +9,7 @@ mod deciding;
 mod refusal;
 mod setting;
 mod storing;
+mod transforming;
 
 pub use acted::{Acted, Reason, To};
 pub use acting::act;

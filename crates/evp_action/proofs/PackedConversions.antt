@@ -43,6 +43,6 @@ packed_into formats owned to limit held found plan bytes value lent is there pac
     record {
       fields = done.fields;
       converted = converted_by formats owned.format to limit held plan value (rec done.fields) done.size known
-        (value_is formats owned held value lent has) done.converted;
+          (value_is formats owned held value lent has) done.converted;
       packed = record { layout = known.receiver; there = known.receiver_is; laid = known.stands.laid; packed = done.packed };
     }

@@ -73,9 +73,9 @@ is_set into k setting value n field fields after at may fits packed =
       fields = with_number setting.field n fields;
       packed = packed;
       is = λ next.
-        ap (λ (read : Result ℤ EvalFault). then_number (Some k) read
-        (λ m. stored (field_at into (length into.types - 1) setting.field) m (λ _. next (with_number setting.field m fields)))) (sym at.read)
-        ∙ stored_in _ field may.kind n (λ _. next (with_number setting.field n fields)) at.there is within;
+          ap (λ (read : Result ℤ EvalFault). then_number (Some k) read
+          (λ m. stored (field_at into (length into.types - 1) setting.field) m (λ _. next (with_number setting.field m fields)))) (sym at.read)
+          ∙ stored_in _ field may.kind n (λ _. next (with_number setting.field n fields)) at.there is within;
     }
 
 -- one that doesn't fit refuses the record
@@ -86,7 +86,7 @@ pub is_unfit : (into : Layout) (k : ℕ) (setting : Setting) (value : Datum) (n 
 is_unfit into k setting value n field fields path at may unfit path_is next =
     let is = same_kind into setting value n field at may in
     let out = is_false (is_in_range may.kind field.size n)
-        (λ yes. unfit (subst (λ (b : Base). IsNumberIn b field.size n) (sym is) (in_range_is may.kind field.size n yes))) in
+    (λ yes. unfit (subst (λ (b : Base). IsNumberIn b field.size n) (sym is) (in_range_is may.kind field.size n yes))) in
     ap (λ (read : Result ℤ EvalFault). then_number (Some k) read
     (λ m. stored (field_at into (length into.types - 1) setting.field) m (λ _. next (with_number setting.field m fields)))) (sym at.read)
     ∙ (unfit_in _ field may.kind n (λ _. next (with_number setting.field n fields)) at.there is out

@@ -77,7 +77,7 @@ set_sent formats into receiver settings value fields bytes owned there laid are 
         viewed = ap (λ (o : OwnedBytes). view receiver o.bytes) is ∙ packed_viewed receiver are.fields bytes laid are.packed;
       };
       is = transformed_is formats into receiver settings value fields there
-        ∙ (are.is (λ (entries : Entries). sent to.All into (rec entries)) ∙ ap (λ (n : ℕ). sent to.All n (rec are.fields)) (sym numbered));
+          ∙ (are.is (λ (entries : Entries). sent to.All into (rec entries)) ∙ ap (λ (n : ℕ). sent to.All n (rec are.fields)) (sym numbered));
     }
 
 -- the setting that stops it
@@ -139,7 +139,7 @@ pub behind_both : (formats : List Layout) (limit format into from : ℕ) (settin
     (bytes : List ℕ) (answer : Result Acted Refusal) → (is : IsInto formats from format limit value owned)
     → ((made : Datum) → HasValue formats owned made → IsPackedInto formats owned.format into limit made bytes)
     → ((made : Datum) (fields : Entries) → HasValue formats owned made → IsPackedIn formats into fields bytes
-        → IsAnswer formats (transformed (slice_get formats into) into settings made (rec fields)) answer)
+    → IsAnswer formats (transformed (slice_get formats into) into settings made (rec fields)) answer)
     → IsAnswer formats (transforms formats limit format into settings from value) answer
 behind_both formats limit format into from settings value owned bytes answer is packs does =
     let has = into_value formats from format limit value owned is in

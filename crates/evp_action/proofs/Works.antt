@@ -5,12 +5,14 @@ use Rattle.std.proofs.lemmas.Option.{slice_get_within}
 use Rattle.std.specs.List.{Contains}
 use Rattle.std.specs.Prelude.{IsOk, IsSome}
 use Rattle.evp_action.specs.declared.acted.Acted.{Acted}
+use Rattle.evp_action.specs.declared.acted.Reason.{Reason}
+use Rattle.evp_action.specs.declared.action.Action.{Action}
 use Rattle.evp_action.specs.declared.refusal.Refusal.{Refusal}
 use Rattle.evp_action.specs.declared.refusal.Refusal.TheVariants.{Cause, Memory}
-use Rattle.evp_action.specs.Acting.{converting}
-use Rattle.evp_action.specs.Asking.{converts, is_converted, transform_pairs, Keeps, Asks, AsksOnly, BuildsFor}
+use Rattle.evp_action.specs.Acting.{act, converting}
+use Rattle.evp_action.specs.Asking.{converts, is_converted, pairs_of, transform_pairs, Keeps, Asks, AsksOnly, BuildsFor}
 use Rattle.evp_action.specs.Converted.{CanAsk, IsConverted, IsInto, IsCause, IsRefused, spare}
-use Rattle.evp_action.specs.Outcome.{Outcome}
+use Rattle.evp_action.specs.Outcome.{Outcome, refused}
 use Rattle.evp_action.specs.Performed.{HasValue, IsComeOf, IsActed}
 use Rattle.evp_action.specs.Working.{IsAnswer, Works}
 use Rattle.evp_action.proofs.Conversions.{goes_on}
@@ -140,3 +142,18 @@ by_one cells formats owned outcome to rest old new before after answer keeps onl
   asks = λ value has. asks_one owned.format to (rest value) old new only;
   builds = builds;
 }
+
+-- the work of an action that is this one
+pub of_action : (cells : Cells) (formats : List Layout) (owned : OwnedBytes) (limit targets : ℕ) (a b : Action) (old new : List Known)
+    (before after : ℕ) (answer : Result Acted Refusal) → a ≡ b
+    → Works cells formats owned (act formats limit b targets owned.format) (pairs_of formats limit b owned.format) old new before after answer
+    → Works cells formats owned (act formats limit a targets owned.format) (pairs_of formats limit a owned.format) old new before after answer
+of_action cells formats owned limit targets a b old new before after answer is works =
+    subst (λ (x : Action). Works cells formats owned (act formats limit x targets owned.format) (pairs_of formats limit x owned.format) old new before after answer)
+    (sym is) works
+
+-- what was refused
+pub refused_is : (formats : List Layout) (outcome : Outcome) (answer : Result Acted Refusal) (cause : Refusal) (why : Reason) → answer ≡ Err cause
+    → cause ≡ Cause why → IsAnswer formats outcome answer → outcome ≡ refused why
+refused_is formats outcome answer cause why is cause_is answers =
+    subst (λ (c : Refusal). IsRefused outcome c) cause_is (subst (λ (r : Result Acted Refusal). IsAnswer formats outcome r) is answers)

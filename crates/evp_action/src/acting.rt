@@ -93,7 +93,9 @@ fn acted(
             filter(alloc, converter, pass, builds, item, *format, test)
         }
         Action::Router { format, choose } => {
-            route(alloc, converter, pass, builds, item, *format, targets, choose)
+            route(
+                alloc, converter, pass, builds, item, *format, targets, choose,
+            )
         }
         Action::Transform { format, into, set } => {
             let set = set.as_slice();

@@ -111,12 +111,7 @@ fn filtered(formats: &[Format], test: &Bound, item: Arc<Owned, Global>) -> Acted
 }
 
 // Sends the record to the target at the position that the expression gives, where there is one.
-fn routed(
-    formats: &[Format],
-    targets: u16,
-    choose: &Bound,
-    item: Arc<Owned, Global>,
-) -> Acted
+fn routed(formats: &[Format], targets: u16, choose: &Bound, item: Arc<Owned, Global>) -> Acted
     requires bound { slice_get formats.now (arc_value item).format ≡ Some choose.now.layout }
     requires has { HasValueIn formats.now (arc_value item) }
     ensures { (value : Datum) → HasValue formats.now (arc_value item) value

@@ -37,7 +37,7 @@ store-requires-clause-fits c =
     let into = c.args.receiver.now in
     let field = c.field-field.result.now in
     let there = subst (λ (types : List RecordType). field_at into (length types - 1) c.args.setting.now.field ≡ Some field) c.types.ensures.value
-        c.field-field.ensures.value in
+    c.field-field.ensures.value in
     fits_at into c.args.setting.now.field _ field there (c.holds.ensures.0 c.if-not-holds.false)
 
 pub returns-clause-set : goal.returns-clause-set

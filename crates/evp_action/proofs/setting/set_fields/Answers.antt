@@ -17,6 +17,6 @@ loop-k-preserved c =
     record {
       packed = still_packed c.args.receiver.now c.loop-k.k c.index-set-k.result value c.loop-k.bytes c.set_field.new.bytes c.loop-k.invariant.packed c.in_ok-set_field.ensures.set;
       so_far = λ fields packed.
-        step_on c.args.receiver.now c.loop-k.k c.args.set.now c.index-set-k.result value fields c.loop-k.bytes c.set_field.new.bytes
-        c.loop-k-test.true c.index-set-k.is (c.loop-k.invariant.so_far fields packed) c.in_ok-set_field.ensures.set;
+          step_on c.args.receiver.now c.loop-k.k c.args.set.now c.index-set-k.result value fields c.loop-k.bytes c.set_field.new.bytes
+          c.loop-k-test.true c.index-set-k.is (c.loop-k.invariant.so_far fields packed) c.in_ok-set_field.ensures.set;
     }

@@ -1,6 +1,7 @@
 use Rattle.std.proofs.Common.{◌≡◌, ℕ, List, [], ◌∷◌, cond, Ok, Err, sym, ap, ◌∙◌, subst, slice_get, arith}
 use Rattle.std.proofs.lemmas.Result.{err_from_is_err_and}
 use Rattle.std.specs.Arc.{arc_value}
+use Rattle.evp_action.specs.declared.acted.Acted.{Acted}
 use Rattle.evp_action.specs.Acting.{transforms, transformed}
 use Rattle.evp_action.specs.Agreement.{AreSettings}
 use Rattle.evp_action.specs.Asking.{converts, AsksOnly}
@@ -57,16 +58,16 @@ returns-in_err-bytes c =
     let known = c.packed.new.known in
     let p = err_from_is_err_and c.from_residual-in_err-bytes.result c.from_residual-in_err-bytes.ensures.1 in
     let why = subst (λ (o : OwnedBytes). (m : Datum) → HasValue formats o m → IsCause formats o.format c.args.into conv.limit m cause) c.deref.ensures
-        c.in_err-bytes.ensures.cause in
+    c.in_err-bytes.ensures.cause in
     let asked = subst (λ (o : OwnedBytes). AsksOnly o.format c.args.into c.convert.new.known known) c.deref.ensures c.in_err-bytes.ensures.asked in
     rw (p.1, p.2) (record {
       answers = λ value has. second_refused formats conv.limit c.args.format c.args.into owned.format c.args.set.now value made cause
-        (c.in_ok-made.ensures.made value has) why;
+          (c.in_ok-made.ensures.made value has) why;
       keeps = keeps_both conv.cache.now formats c.args.pass.now c.convert.new.known known c.in_ok-made.ensures.kept c.in_err-bytes.ensures.kept;
       asks = λ value has. asks_two formats conv.limit c.args.format c.args.into owned.format value made c.args.pass.now c.convert.new.known known
-        (c.in_ok-made.ensures.made value has) c.in_ok-made.ensures.asked asked;
-      builds = builds_both c.args.pass.now c.convert.new.known known c.args.builds.now c.convert.new.builds c.packed.new.builds (spare {Unit {0}} (Err cause))
-        c.in_ok-made.ensures.builds c.in_err-bytes.ensures.builds;
+          (c.in_ok-made.ensures.made value has) c.in_ok-made.ensures.asked asked;
+      builds = builds_both c.args.pass.now c.convert.new.known known c.args.builds.now c.convert.new.builds c.packed.new.builds (spare {A = Acted} (Err cause))
+          c.in_ok-made.ensures.builds c.in_err-bytes.ensures.builds;
     })
 
 pub with_fields_set-requires-clause-settings : goal.with_fields_set-requires-clause-settings
@@ -74,9 +75,11 @@ with_fields_set-requires-clause-settings c =
     let conv = c.args.converter.now in
     let formats = conv.formats.now in
     let v = valued formats (arc_value c.args.item.now) c.requires.item in
-    let is = c.in_ok-made.ensures.made v.value v.has in
-    (conv.cache.now.declared, subst (λ (n : ℕ). AreSettings formats conv.cache.now.declared n c.args.into c.args.set.now)
-    (sym (ap (λ (o : OwnedBytes). o.format) c.deref-2.ensures ∙ is.numbered)) c.requires.settings)
+    let is = c.in_ok-made.ensures.made v.value v.has in (
+      conv.cache.now.declared,
+      subst (λ (n : ℕ). AreSettings formats conv.cache.now.declared n c.args.into c.args.set.now)
+          (sym (ap (λ (o : OwnedBytes). o.format) c.deref-2.ensures ∙ is.numbered)) c.requires.settings,
+    )
 
 pub with_fields_set-requires-clause-item : goal.with_fields_set-requires-clause-item
 with_fields_set-requires-clause-item c =
@@ -108,17 +111,17 @@ returns c =
     let bytes = c.in_ok-bytes.bytes.items in
     let answer = c.with_fields_set.result in
     let packs = subst (λ (o : OwnedBytes). (m : Datum) → HasValue formats o m → IsPackedInto formats o.format c.args.into conv.limit m bytes) c.deref.ensures
-        c.in_ok-bytes.ensures.made in
+    c.in_ok-bytes.ensures.made in
     let does = subst (λ (o : OwnedBytes). (m : Datum) (fields : Entries) → HasValue formats o m → IsPackedIn formats c.args.into fields bytes
-        → IsAnswer formats (transformed (slice_get formats c.args.into) c.args.into c.args.set.now m (rec fields)) answer) c.deref-2.ensures
-        c.with_fields_set.ensures in
+    → IsAnswer formats (transformed (slice_get formats c.args.into) c.args.into c.args.set.now m (rec fields)) answer) c.deref-2.ensures
+    c.with_fields_set.ensures in
     let asked = subst (λ (o : OwnedBytes). AsksOnly o.format c.args.into c.convert.new.known known) c.deref.ensures c.in_ok-bytes.ensures.asked in
     record {
       answers = λ value has. behind_both formats conv.limit c.args.format c.args.into owned.format c.args.set.now value made bytes answer
-        (c.in_ok-made.ensures.made value has) packs does;
+          (c.in_ok-made.ensures.made value has) packs does;
       keeps = keeps_both conv.cache.now formats c.args.pass.now c.convert.new.known known c.in_ok-made.ensures.kept c.in_ok-bytes.ensures.kept;
       asks = λ value has. asks_two formats conv.limit c.args.format c.args.into owned.format value made c.args.pass.now c.convert.new.known known
-        (c.in_ok-made.ensures.made value has) c.in_ok-made.ensures.asked asked;
+          (c.in_ok-made.ensures.made value has) c.in_ok-made.ensures.asked asked;
       builds = builds_done c.args.pass.now c.convert.new.known known c.args.builds.now c.convert.new.builds c.packed.new.builds (spare answer)
-        c.in_ok-made.ensures.builds c.in_ok-bytes.ensures.builds;
+          c.in_ok-made.ensures.builds c.in_ok-bytes.ensures.builds;
     }

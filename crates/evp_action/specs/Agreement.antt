@@ -40,7 +40,7 @@ pub record IsSetting (formats : List Layout) (declared format into : ℕ) (setti
     pub settable : IsSettable layout setting.field
 
 -- a transform's formats are declared, its expressions are bound to the first, and the fields that it
--- sets, which have numbers below 2^16, may be set in the second
+-- sets may be set in the second; settings have numbers below 2^16
 pub record AreSettings (formats : List Layout) (declared format into : ℕ) (settings : List Setting) :
     Type 0 where
   pub layout : Layout

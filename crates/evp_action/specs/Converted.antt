@@ -1,5 +1,6 @@
 -- A record that is converted into the format of a number, or why it isn't.
-use Rattle.std.specs.Prelude.{◌≡◌, ℕ, ◌<◌, List, Result, Ok, Err, Option, Some, None, slice_get, length, ⊤}
+use Rattle.std.specs.Prelude.{◌≡◌, ℕ, ◌<◌, List, Result, Ok}
+use Rattle.std.specs.Prelude.{Err, Option, Some, None, slice_get, length, ⊤}
 use Rattle.evp_action.specs.declared.acted.Reason.{Reason}
 use Rattle.evp_action.specs.declared.acted.Reason.TheVariants as reason
 use Rattle.evp_action.specs.declared.refusal.Refusal.{Refusal}

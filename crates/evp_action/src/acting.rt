@@ -48,11 +48,14 @@ pub fn act(
     requires item { HasValueIn formats.now (arc_value item.now) }
     ensures acts { IfOk result (λ acted. (value : Datum)
         → HasValue formats.now (arc_value item.now) value
-        → IsActed formats.now (act formats.now limit action.now targets (arc_value item.now).format value) acted) }
+        → IsActed formats.now (act formats.now limit action.now targets (arc_value
+        item.now).format value) acted) }
     ensures kept { Keeps cache.now formats.now pass.old pass.new }
     ensures asked { (value : Datum) → HasValue formats.now (arc_value item.now) value
-        → Asks (pairs_of formats.now limit action.now (arc_value item.now).format value) pass.old pass.new }
-    ensures builds { BuildsFor (if is_err result then 1 else 0) pass.old pass.new builds.old builds.new }
+        → Asks (pairs_of formats.now limit action.now (arc_value item.now).format value) pass.old
+        pass.new }
+    ensures builds { BuildsFor (if is_err result then 1 else 0) pass.old pass.new builds.old
+        builds.new }
 {
     let converter = Converter {
         formats,

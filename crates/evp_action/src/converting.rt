@@ -47,14 +47,17 @@ impl<'a> Converter<'a> {
         item: &Arc<Owned, Global>,
         to: u16,
     ) -> Result<Arc<Owned, Global>, Refusal>
-        requires ask { CanAsk self.now.cache.now self.now.formats.now known.old (arc_value item.now).format to }
+        requires ask { CanAsk self.now.cache.now self.now.formats.now known.old (arc_value
+            item.now).format to }
         requires has { HasValueIn self.now.formats.now (arc_value item.now) }
         ensures made { IfOk result (λ made. (value : Datum)
             → HasValue self.now.formats.now (arc_value item.now) value
-            → IsInto self.now.formats.now (arc_value item.now).format to self.now.limit value (arc_value made)) }
+            → IsInto self.now.formats.now (arc_value item.now).format to self.now.limit value
+            (arc_value made)) }
         ensures cause { IfErr result (λ cause. (value : Datum)
             → HasValue self.now.formats.now (arc_value item.now) value
-            → IsCause self.now.formats.now (arc_value item.now).format to self.now.limit value cause) }
+            → IsCause self.now.formats.now (arc_value item.now).format to self.now.limit value
+            cause) }
         ensures kept { Keeps self.now.cache.now self.now.formats.now known.old known.new }
         ensures asked { AsksOnly (arc_value item.now).format to known.old known.new }
         ensures builds { BuildsFor (spare result) known.old known.new builds.old builds.new }
@@ -76,10 +79,12 @@ impl<'a> Converter<'a> {
         requires has { HasValueIn self.now.formats.now (arc_value item.now) }
         ensures made { IfOk result (λ made. (value : Datum)
             → HasValue self.now.formats.now (arc_value item.now) value
-            → IsInto self.now.formats.now (arc_value item.now).format to self.now.limit value (arc_value made)) }
+            → IsInto self.now.formats.now (arc_value item.now).format to self.now.limit value
+            (arc_value made)) }
         ensures cause { IfErr result (λ cause. (value : Datum)
             → HasValue self.now.formats.now (arc_value item.now) value
-            → IsCause self.now.formats.now (arc_value item.now).format to self.now.limit value cause) }
+            → IsCause self.now.formats.now (arc_value item.now).format to self.now.limit value
+            cause) }
     {
         let plan = plan_in(found)?;
         match pass(alloc, plan, item.checked(self.formats), self.limit) {
@@ -104,7 +109,8 @@ impl<'a> Converter<'a> {
         requires has { HasValueIn self.now.formats.now item.now }
         ensures made { IfOk result (λ bytes. (value : Datum)
             → HasValue self.now.formats.now item.now value
-            → IsPackedInto self.now.formats.now item.now.format to self.now.limit value bytes.items) }
+            → IsPackedInto self.now.formats.now item.now.format to self.now.limit value
+            bytes.items) }
         ensures cause { IfErr result (λ cause. (value : Datum)
             → HasValue self.now.formats.now item.now value
             → IsCause self.now.formats.now item.now.format to self.now.limit value cause) }
@@ -129,7 +135,8 @@ impl<'a> Converter<'a> {
         requires has { HasValueIn self.now.formats.now item.now }
         ensures made { IfOk result (λ bytes. (value : Datum)
             → HasValue self.now.formats.now item.now value
-            → IsPackedInto self.now.formats.now item.now.format to self.now.limit value bytes.items) }
+            → IsPackedInto self.now.formats.now item.now.format to self.now.limit value
+            bytes.items) }
         ensures cause { IfErr result (λ cause. (value : Datum)
             → HasValue self.now.formats.now item.now value
             → IsCause self.now.formats.now item.now.format to self.now.limit value cause) }

@@ -3,6 +3,7 @@ mod ElementsLeft
 mod Escapes
 mod FieldsLeft
 mod Found
+mod Idle
 mod JobParts
 mod ReportExamples
 mod RoundsLeft

@@ -1,3 +1,5 @@
+mod reports;
+
 ghost use Rattle.std.specs.Prelude.{◌<◌, ◌^◌, length};
 
 use super::*;

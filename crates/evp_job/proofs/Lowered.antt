@@ -1,5 +1,5 @@
 -- What is read a step further down, and values that are read one behind another.
-use Rattle.std.proofs.Common.{◌≡◌, ◌≢◌, ℕ, List, [], ◌∷◌, Bool, map, Result, Err, ◌⊎◌, inl, inr}
+use Rattle.std.proofs.Common.{◌≡◌, ◌≢◌, ℕ, List, [], ◌∷◌, length, Bool, map, Result, Err, ◌⊎◌, inl, inr}
 use Rattle.std.proofs.Common.{sym, ap, ◌∙◌, refl}
 use Rattle.std.specs.Prelude.{◌&&◌, ◌||◌, string_bytes, String}
 use Rattle.std.specs.List.{list_any, list_all}
@@ -11,7 +11,12 @@ use Rattle.serde_json.specs.declared.value.Value.{Value}
 use Rattle.evp_format.specs.Bytes.{bytes_equal}
 use Rattle.evp_job.specs.declared.fault.JobFault.{JobFault}
 use Rattle.evp_job.specs.declared.fault.JobFault.TheVariants as fault
+use Rattle.std.proofs.lemmas.List.{length-map}
+use Rattle.evp_job.specs.declared.sources.SourceText.{SourceText}
 use Rattle.evp_job.specs.Forms.{listed, all_known}
+use Rattle.evp_job.specs.SourceView.{source_of, sources_of}
+use Rattle.evp_job.specs.TextView.{stone_of, stones_of}
+use Rattle.evp_stone.specs.declared.stone.Stone.{Stone}
 use Rattle.evp_job.specs.Steps.{behind, under}
 
 -- a fault that is handed on with a step in front
@@ -48,3 +53,10 @@ all_known_keys seen known (entry ∷ entries) =
     (any_mapped (bytes_equal (string_bytes entry.0)) seen known)
     ∙ ap (λ (b : Bool). list_any (λ name. bytes_equal (string_bytes entry.0) (seen name)) known
     && b) (all_known_keys seen known entries)
+
+-- as many as are kept
+pub sources_count : (sources : List SourceText) → length (sources_of sources) ≡ length sources
+sources_count sources = length-map sources source_of
+
+pub stones_count : (stones : List Stone) → length (stones_of stones) ≡ length stones
+stones_count stones = length-map stones stone_of

@@ -1,12 +1,10 @@
 -- What a job document begins with, in the order of reading: the limits, the formats, the sources.
-use Rattle.std.specs.Prelude.{◌≡◌, ℕ, List, codes, Option, Some, None, Result, Ok, Err, IsUtf8}
+use Rattle.std.specs.Prelude.{◌≡◌, ℕ, List, codes, Option, Some, None, Result, Ok, IsUtf8}
 use Rattle.evp_base.specs.declared.step.Step.TheVariants.{Field}
 use Rattle.serde_json.specs.Data.{Data}
 use Rattle.serde_json.specs.Find.{get}
 use Rattle.serde_json.specs.Read.{read}
 use Rattle.evp_job.specs.declared.fault.JobFault.{JobFault}
-use Rattle.evp_job.specs.declared.head.ReadJob.{ReadJob}
-use Rattle.evp_job.specs.declared.head.ReadJob.TheVariants.{NotJson, Job, Memory}
 use Rattle.evp_job.specs.Formats.{Named, formats_in}
 use Rattle.evp_job.specs.Forms.{number_within, object_in}
 use Rattle.evp_job.specs.Sources.{SourceShape, sources_in}
@@ -40,14 +38,3 @@ head_in value = do
 pub record IsTextOf (bytes : List ℕ) (value : Data) : Type 0 where
   pub utf8 : IsUtf8 bytes
   pub read_as : read bytes ≡ Some value
-
--- the bytes state this head, or are refused with this fault
-abbrev pub StatesHead : List ℕ → Result HeadShape JobFault → Type 0
-StatesHead bytes answer = (value : Data) × IsTextOf bytes value × (head_in value ≡ answer)
-
--- the cause is that of these bytes: a document's first fault, no JSON, or want of memory, of which
--- nothing is said
-abbrev pub IsRefusalOf : List ℕ → ReadJob → Type 0
-IsRefusalOf bytes NotJson = IsUtf8 bytes → read bytes ≡ None
-IsRefusalOf bytes (Job cause) = StatesHead bytes (Err cause)
-IsRefusalOf bytes Memory = Unit {0}

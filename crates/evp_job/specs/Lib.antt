@@ -13,3 +13,13 @@ pub mod TextShape
 pub mod TextView
 pub mod Stated
 pub mod Filling
+pub mod Expressions
+pub mod Settings
+pub mod SettingView
+pub mod Kinds
+pub mod Stones
+pub mod KnownView
+pub mod Rounds
+pub mod Job
+pub mod JobView
+pub mod Routing

@@ -42,7 +42,7 @@ under step (Ok x) = Ok x
 under step (Err cause) = Err (behind step cause)
 
 -- what these values make, one behind another; k is the number of the first
-abbrev pub all_from : {A : Type 0} → (ℕ → A → Data → Result A JobFault) → ℕ → A → List Data
+abbrev pub all_from : {A X : Type 0} → (ℕ → A → X → Result A JobFault) → ℕ → A → List X
     → Result A JobFault
 all_from step k done [] = Ok done
 all_from step k done (value ∷ values) =

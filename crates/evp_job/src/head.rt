@@ -1,13 +1,13 @@
 //! What a job document begins with.
 
-ghost use Rattle.std.specs.Prelude.{◌≡◌, ◌≤◌, Ok, IsTrue, IfOk, IfErr, codes};
+ghost use Rattle.std.specs.Prelude.{◌≡◌, ◌≤◌, IsTrue, codes};
 ghost use Rattle.evp_base.specs.declared.step.Step.TheVariants.{Field};
 ghost use Rattle.evp_base.specs.Name.{is_name};
 ghost use Rattle.serde_json.specs.Find.{get};
 ghost use Rattle.serde_json.specs.View.{view};
 ghost use Rattle.evp_job.specs.Formats.{formats_in};
 ghost use Rattle.evp_job.specs.FormatView.{named_of};
-ghost use Rattle.evp_job.specs.Head.{number_or, head_in, StatesHead, IsRefusalOf};
+ghost use Rattle.evp_job.specs.Head.{number_or, head_in};
 ghost use Rattle.evp_job.specs.HeadView.{head_of};
 ghost use Rattle.evp_job.specs.Sources.{sources_in};
 ghost use Rattle.evp_job.specs.SourceView.{sources_of};
@@ -20,12 +20,12 @@ use crate::sources::sources;
 use crate::{JobFault, SourceText};
 use evp_base::Name;
 use evp_file::KnownFormat;
-use serde_json::{Category, Value};
+use serde_json::Value;
 use std::alloc::Global;
 
 /// The limits, formats and sources of a job document.
 #[derive(Drop)]
-pub struct JobHead {
+pub(crate) struct JobHead {
     /// The longest record in bytes, 64 to 262,144; 4,096 where none is stated.
     pub limit: u32,
     /// The entries that a stone's queue holds, 1 to 4,096; 64 where none is stated.
@@ -38,38 +38,9 @@ pub struct JobHead {
     pub sources: Vec<SourceText>,
 }
 
-/// Why bytes state no job.
-#[derive(Debug, Drop)]
-pub enum ReadJob {
-    /// They aren't UTF-8, or no JSON text.
-    NotJson,
-    /// The document's first fault, which isn't want of memory.
-    Job(JobFault),
-    /// There was no memory for the job.
-    Memory,
-}
-
-/// The limits, formats and sources that a job document states, or its first fault up to there
-/// (`docs/FORMATS.md`, "Job documents"). What follows them isn't looked at.
-pub fn read_head(alloc: Global, bytes: &[u8]) -> Result<JobHead, ReadJob>
-    ensures head { IfOk result (λ head. StatesHead bytes.now (Ok (head_of head))) }
-    ensures refused { IfErr result (IsRefusalOf bytes.now) }
-{
-    let document = match Value::from_slice(alloc, bytes) {
-        Ok(document) => document,
-        Err(error) if error.classify() == Category::Memory => return Err(ReadJob::Memory),
-        Err(_) => return Err(ReadJob::NotJson),
-    };
-    match head_in(alloc, &document) {
-        Ok(head) => Ok(head),
-        Err(JobFault::Memory) => Err(ReadJob::Memory),
-        Err(fault) => Err(ReadJob::Job(fault)),
-    }
-}
-
-// The head of a document.
+/// The head of a document. What follows its sources isn't looked at.
 #[tactic(auto, unfolding(crate::specs::Head::head_in))]
-fn head_in(alloc: Global, value: &Value) -> Result<JobHead, JobFault>
+pub(crate) fn head_in(alloc: Global, value: &Value) -> Result<JobHead, JobFault>
     ensures { Gives (λ head. head_of head) result (head_in (view value.now)) }
 {
     let object = object(alloc, value)?;

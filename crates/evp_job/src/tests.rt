@@ -1,7 +1,6 @@
-//! Documents that are read up to their sources, and the first faults of others.
+//! Documents up to their sources, and their first faults.
 
-use crate::{ReadJob, read_head};
-use std::alloc::{AllocError, Global};
+use crate::documents::{answer, joined};
 use std::test::Fail;
 
 // Up to the types of a format, and up to the fields of its first type.
@@ -17,7 +16,7 @@ const FORMAT: &str =
 const SOURCE: &str = "{\"name\":\"a\",\"file\":\"f\",\"stone\":0}";
 
 // Pieces that make a document together, and the answer.
-const ROWS: [(&str, &[&str], &str); 35] = [
+const ROWS: [(&str, &[&str], &str); 36] = [
     ("no JSON text", &["{"], "not json"),
     ("a list", &["[]"], "member ."),
     (
@@ -160,39 +159,24 @@ const ROWS: [(&str, &[&str], &str); 35] = [
         "name used twice at sources[1].name",
     ),
     (
-        "a head",
+        "a source without its stone, and a stone without its target",
         &[
-            "{\"formats\":[",
-            FORMAT,
-            "],\"sources\":[{\"stone\":3,\"file\":\"f\",\"name\":\"a\"}],\"limit\":100}",
+            "{\"formats\":[],\"sources\":[{\"name\":\"a\",\"file\":\"f\",\"stone\":1}],",
+            "\"stones\":[{\"kind\":\"split\",\"targets\":[9]}],\"rounds\":[{\"submit\":[1],\"frozen\":[]}]}",
         ],
-        "limit 100 queue 64 formats 1 sources 1",
+        "no stone of source 0",
+    ),
+    (
+        "members in another order",
+        &[
+            "{\"rounds\":[{\"frozen\":[],\"submit\":[1]}],\"stones\":[{\"format\":\"q\",\"kind\":\"terminal\"}],",
+            "\"formats\":[",
+            FORMAT,
+            "],\"sources\":[{\"stone\":0,\"file\":\"f\",\"name\":\"a\"}],\"limit\":100}",
+        ],
+        "limit 100 queue 64 formats 1 sources 1 stones 1 rounds 1 routes 1",
     ),
 ];
-
-// The pieces, one behind another.
-fn joined(alloc: Global, pieces: &[&str]) -> Result<Vec<u8>, AllocError> {
-    let mut bytes = Vec::new(alloc);
-    for piece in pieces {
-        bytes.extend_from_slice(piece.as_bytes())?;
-    }
-    Ok(bytes)
-}
-
-// The text of what is read.
-fn answer(alloc: Global, bytes: &[u8]) -> Result<String, AllocError> {
-    match read_head(alloc, bytes) {
-        Ok(head) => {
-            let (limit, queue) = (head.limit, head.queue);
-            let formats = head.formats.len();
-            let sources = head.sources.len();
-            format!(in alloc; "limit {limit} queue {queue} formats {formats} sources {sources}")
-        }
-        Err(ReadJob::NotJson) => String::from_str(alloc, "not json"),
-        Err(ReadJob::Job(fault)) => format!(in alloc; "{fault}"),
-        Err(ReadJob::Memory) => String::from_str(alloc, "memory"),
-    }
-}
 
 #[test]
 fn heads_and_first_faults(rt: HostRuntime) -> Result<(), Fail> {

@@ -33,9 +33,9 @@ fn field_values(alloc: Global, value: &Value) -> Result<&[Value], JobFault>
     Ok(values)
 }
 
-// The text at this place of a list.
+/// The text at this place of a list.
 #[tactic(auto, using(crate::proofs::Lowered::under_err))]
-fn text_item(alloc: Global, values: &[Value], k: u32) -> Result<&str, JobFault>
+pub(crate) fn text_item(alloc: Global, values: &[Value], k: u32) -> Result<&str, JobFault>
     ensures { Gives (λ text. text.now) result
         (under (Index k) (text_in (slice_get (map view values.now) k))) }
 {

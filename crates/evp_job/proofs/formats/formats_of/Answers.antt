@@ -10,7 +10,7 @@ use Rattle.evp_job.proofs.formats.formats_of.Goals as goal
 pub loop-k-preserved : goal.loop-k-preserved
 loop-k-preserved c =
     let values = c.args.values.now in
-    all_goes_on (next_format c.args.limit) values c.loop-k.k c.index-values-k.result
+    all_goes_on view (next_format c.args.limit) values c.loop-k.k c.index-values-k.result
     (named_of c.loop-k.named) (named_of c.next_format.new.named)
     (all_from (next_format c.args.limit) 0 none_named (map view values)) c.loop-k-test.true
     c.index-values-k.is c.in_ok-next_format.ensures c.loop-k.invariant
@@ -21,7 +21,7 @@ returns-in_err-next_format c =
     let fault = c.in_err-next_format.field-0.0 in
     let p = err_from_is_err_and c.from_residual.result c.from_residual.ensures.1 in
     rw (p.1, p.2) (λ other.
-    all_stops (next_format c.args.limit) values c.loop-k.k c.index-values-k.result
+    all_stops view (next_format c.args.limit) values c.loop-k.k c.index-values-k.result
     (named_of c.loop-k.named) fault (all_from (next_format c.args.limit) 0 none_named
     (map view values))
     c.loop-k-test.true c.index-values-k.is (c.in_err-next_format.ensures other) c.loop-k.invariant)
@@ -29,6 +29,6 @@ returns-in_err-next_format c =
 pub returns : goal.returns
 returns c =
     let values = c.args.values.now in
-    all_end (next_format c.args.limit) values c.loop-k.k (named_of c.loop-k.named)
+    all_end view (next_format c.args.limit) values c.loop-k.k (named_of c.loop-k.named)
     (all_from (next_format c.args.limit) 0 none_named (map view values)) c.loop-k-test.false
     c.loop-k.invariant

@@ -8,5 +8,5 @@ use Rattle.evp_job.proofs.formats.formats_of.Given as goal
 
 abbrev pub invariant-loop-k : goal.invariant-loop-k
 invariant-loop-k l =
-    all_left (next_format l.limit) l.k (named_of l.named) (drop l.k l.values)
+    all_left view (next_format l.limit) l.k (named_of l.named) (drop l.k l.values)
     ≡ all_from (next_format l.limit) 0 none_named (map view l.values)

@@ -10,7 +10,7 @@ use Rattle.evp_job.proofs.sources.all_sources.Goals as goal
 pub loop-k-preserved : goal.loop-k-preserved
 loop-k-preserved c =
     let values = c.args.values.now in
-    all_goes_on next_source values c.loop-k.k c.index-values-k.result
+    all_goes_on view next_source values c.loop-k.k c.index-values-k.result
     (sources_of c.loop-k.sources.items) (sources_of c.next_source.new.sources.items)
     (all_from next_source 0 [] (map view values)) c.loop-k-test.true c.index-values-k.is
     c.in_ok-next_source.ensures c.loop-k.invariant
@@ -21,12 +21,12 @@ returns-in_err-next_source c =
     let fault = c.in_err-next_source.field-0.0 in
     let p = err_from_is_err_and c.from_residual.result c.from_residual.ensures.1 in
     rw (p.1, p.2) (λ other.
-    all_stops next_source values c.loop-k.k c.index-values-k.result
+    all_stops view next_source values c.loop-k.k c.index-values-k.result
     (sources_of c.loop-k.sources.items) fault (all_from next_source 0 [] (map view values))
     c.loop-k-test.true c.index-values-k.is (c.in_err-next_source.ensures other) c.loop-k.invariant)
 
 pub returns : goal.returns
 returns c =
     let values = c.args.values.now in
-    all_end next_source values c.loop-k.k (sources_of c.loop-k.sources.items)
+    all_end view next_source values c.loop-k.k (sources_of c.loop-k.sources.items)
     (all_from next_source 0 [] (map view values)) c.loop-k-test.false c.loop-k.invariant

@@ -8,5 +8,5 @@ use Rattle.evp_job.proofs.sources.all_sources.Given as goal
 
 abbrev pub invariant-loop-k : goal.invariant-loop-k
 invariant-loop-k l =
-    all_left next_source l.k (sources_of l.sources.items) (drop l.k l.values)
+    all_left view next_source l.k (sources_of l.sources.items) (drop l.k l.values)
     ≡ all_from next_source 0 [] (map view l.values)

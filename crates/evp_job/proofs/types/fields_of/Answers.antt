@@ -18,13 +18,13 @@ loop-k-preserved c =
     let total = each_in field_in (map view values) in
     let pushed = ap fields_declared c.in_ok-push.ensures.items
     ∙ map-append field_declared c.loop-k.fields.items (c.in_ok-field.field ∷ []) in
-    let read = all_goes_on (one_more field_in) values k value done
+    let read = all_goes_on view (one_more field_in) values k value done
     (done ++ field_declared c.in_ok-field.field ∷ []) total c.loop-k-test.true
     c.index-values-k.is (more_is field_in k done (view value) (field_declared c.in_ok-field.field)
     c.in_ok-field.ensures)
     c.loop-k.invariant.read in
     record {
-      read = subst (λ (all : List DeclaredField). all_left (one_more field_in) (k + 1) all
+      read = subst (λ (all : List DeclaredField). all_left view (one_more field_in) (k + 1) all
           (drop (k + 1) values) ≡ total) (sym pushed) read;
       number = ap length c.in_ok-push.ensures.items
           ∙ length-append c.loop-k.fields.items (c.in_ok-field.field ∷ [])
@@ -42,7 +42,7 @@ returns-in_err-field-clause-value c =
     let p = err_from_is_err_and c.from_residual-in_err-field.result
     c.from_residual-in_err-field.ensures.1 in
     rw (p.1, p.2) (λ other.
-    all_stops (one_more field_in) values k value done fault total c.loop-k-test.true
+    all_stops view (one_more field_in) values k value done fault total c.loop-k-test.true
     c.index-values-k.is
     (more_fails field_in k done (view value) fault (c.in_err-field.ensures other))
     c.loop-k.invariant.read)
@@ -50,6 +50,6 @@ returns-in_err-field-clause-value c =
 pub returns-clause-value : goal.returns-clause-value
 returns-clause-value c =
     let values = c.args.values.now in
-    all_end (one_more field_in) values c.loop-k.k (fields_declared c.loop-k.fields.items)
+    all_end view (one_more field_in) values c.loop-k.k (fields_declared c.loop-k.fields.items)
     (each_in field_in (map view values)) c.loop-k-test.false
     c.loop-k.invariant.read

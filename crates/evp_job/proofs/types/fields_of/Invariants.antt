@@ -8,7 +8,7 @@ use Rattle.evp_job.proofs.types.fields_of.Given as goal
 
 abbrev pub invariant-loop-k : goal.invariant-loop-k
 invariant-loop-k l = record {
-  read : all_left (one_more field_in) l.k (fields_declared l.fields.items) (drop l.k l.values)
+  read : all_left view (one_more field_in) l.k (fields_declared l.fields.items) (drop l.k l.values)
       ≡ each_in field_in (map view l.values);
   number : length l.fields.items ≡ l.k;
 }

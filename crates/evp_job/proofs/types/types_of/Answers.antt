@@ -21,14 +21,14 @@ loop-k-preserved c =
     let IsShort = λ (type : TypeDecl). length type.fields.items < 2 ^ 32 in
     let pushed = ap types_declared c.in_ok-push.ensures.items
     ∙ map-append type_declared c.loop-k.types.items (c.in_ok-declared.declared ∷ []) in
-    let read = all_goes_on (one_more type_in) values k value done
+    let read = all_goes_on view (one_more type_in) values k value done
     (done ++ type_declared c.in_ok-declared.declared ∷ []) total c.loop-k-test.true
     c.index-values-k.is
     (more_is type_in k done (view value) (type_declared c.in_ok-declared.declared)
     c.in_ok-declared.ensures.value)
     c.loop-k.invariant.read in
     record {
-      read = subst (λ (all : List DeclaredType). all_left (one_more type_in) (k + 1) all
+      read = subst (λ (all : List DeclaredType). all_left view (one_more type_in) (k + 1) all
           (drop (k + 1) values) ≡ total) (sym pushed) read;
       number = ap length c.in_ok-push.ensures.items
           ∙ length-append c.loop-k.types.items (c.in_ok-declared.declared ∷ [])
@@ -49,7 +49,7 @@ returns-in_err-declared-clause-value c =
     let p = err_from_is_err_and c.from_residual-in_err-declared.result
     c.from_residual-in_err-declared.ensures.1 in
     rw (p.1, p.2) (λ other.
-    all_stops (one_more type_in) values k value done fault total c.loop-k-test.true
+    all_stops view (one_more type_in) values k value done fault total c.loop-k-test.true
     c.index-values-k.is
     (more_fails type_in k done (view value) fault (c.in_err-declared.ensures.value other))
     c.loop-k.invariant.read)
@@ -57,6 +57,6 @@ returns-in_err-declared-clause-value c =
 pub returns-clause-value : goal.returns-clause-value
 returns-clause-value c =
     let values = c.args.values.now in
-    all_end (one_more type_in) values c.loop-k.k (types_declared c.loop-k.types.items)
+    all_end view (one_more type_in) values c.loop-k.k (types_declared c.loop-k.types.items)
     (each_in type_in (map view values)) c.loop-k-test.false
     c.loop-k.invariant.read

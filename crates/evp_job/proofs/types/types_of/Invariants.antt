@@ -9,7 +9,7 @@ use Rattle.evp_job.proofs.types.types_of.Given as goal
 
 abbrev pub invariant-loop-k : goal.invariant-loop-k
 invariant-loop-k l = record {
-  read : all_left (one_more type_in) l.k (types_declared l.types.items) (drop l.k l.values)
+  read : all_left view (one_more type_in) l.k (types_declared l.types.items) (drop l.k l.values)
       ≡ each_in type_in (map view l.values);
   number : length l.types.items ≡ l.k;
   short : All (λ (type : TypeDecl). length type.fields.items < 2 ^ 32) l.types.items;

@@ -68,7 +68,7 @@ module _ (job : JobShape) (route : Route) (ends : HasEnds route) where
   abbrev records : List Carried
   records = take (sum (submits route.source job.rounds)) (records_of job route.source)
 
-  all-came : all_of came ≡ records
+  pub all-came : all_of came ≡ records
   all-came = all-portions (submits route.source job.rounds) (records_of job route.source)
 
   join : done_of job route ++ held_of job route ≡ all_of (arrivals job route)

@@ -5,11 +5,17 @@ pub mod Flow
 pub mod Job
 pub mod JobShape
 pub mod Laws
+pub mod Lining
 pub mod Parts
 pub mod Port
 pub mod Rounds
 pub mod Route
+pub mod Seen
+pub mod Settling
+pub mod State
 pub mod Tallied
 pub mod Tally
 pub mod Through
 pub mod WholeAccounts
+pub mod Turning
+pub mod Working

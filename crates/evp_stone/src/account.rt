@@ -1,4 +1,8 @@
 //! Accounts: what a stone did in each round on each of its routes.
+ghost use Rattle.std.specs.Prelude.{◌≡◌};
+ghost use Rattle.evp_stone.specs.Settling.{running_of};
+ghost use Rattle.evp_stone.specs.Turning.{Closes, nothing_done};
+
 use evp_action::Reason;
 use evp_record::Owned;
 use std::alloc::Global;
@@ -18,6 +22,28 @@ pub struct RoundAccount {
     pub arrived: Vec<(u32, Arc<Owned, Global>)>,
     /// How many records it keeps at the round's end.
     pub held: u32,
+}
+
+impl RoundAccount {
+    // Nothing was done yet.
+    pub(crate) fn new(alloc: Global) -> RoundAccount
+        ensures { running_of result ≡ nothing_done }
+    {
+        RoundAccount {
+            passed: 0,
+            dropped: 0,
+            refused: Vec::new(alloc),
+            arrived: Vec::new(alloc),
+            held: 0,
+        }
+    }
+
+    // The same where so many records are held at the end.
+    pub(crate) fn closed(self, held: u32) -> RoundAccount
+        ensures { Closes (running_of self) held result }
+    {
+        RoundAccount { held, ..self }
+    }
 }
 
 /// What a stone did on one route, by rounds.

@@ -2,15 +2,20 @@
 #![tactic(auto)]
 
 mod account;
+mod asking;
 mod entry;
 mod job;
 mod laws;
+mod outlet;
 mod port;
 mod round;
+mod route_work;
 mod source;
 mod stone;
 #[cfg(test)]
 mod tests;
+mod turn;
+mod worker;
 
 pub use account::{Account, RoundAccount, RouteAccount};
 pub use entry::Entry;
@@ -20,3 +25,4 @@ pub use port::Port;
 pub use round::{Round, Submitted};
 pub use source::{Records, Source};
 pub use stone::Stone;
+pub use turn::Turn;

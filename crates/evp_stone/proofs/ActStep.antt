@@ -131,7 +131,7 @@ none_stored : {A B : Type 0} (R : A → B → Type 0) (ys : List B) → AllZip R
 none_stored R [] all = refl
 none_stored R (y ∷ ys) all = absurd all
 
-same_length : {A B : Type 0} (R : A → B → Type 0) (xs : List A) (ys : List B) → AllZip R xs ys → length xs ≡ length ys
+pub same_length : {A B : Type 0} (R : A → B → Type 0) (xs : List A) (ys : List B) → AllZip R xs ys → length xs ≡ length ys
 same_length R [] [] all = refl
 same_length R [] (y ∷ ys) all = absurd all
 same_length R (x ∷ xs) [] all = absurd all

@@ -13,7 +13,9 @@ pub mod JobFacts
 pub mod Lined
 pub mod LineUp
 pub mod Longer
+pub mod Outcomes
 pub mod Outlets
+pub mod Room
 pub mod Routes
 pub mod TakeStep
 pub mod Tallies

@@ -48,14 +48,14 @@ pub hand_moves : (route here : ℕ) (entry : Entry) → route_of entry ≡ here 
 hand_moves route here entry on apart =
     ap (λ (b : Bool). if b then 1 else 0) (ne_eqb (route_of entry) route (λ e. apart (sym e ∙ on)))
 
-abbrev never : ℕ → Bool
+abbrev pub never : ℕ → Bool
 never position = false
 
-lengthened-never : (first : ℕ) (outlets : List Outlet) → outlets ≡ lengthened never first outlets
+pub lengthened-never : (first : ℕ) (outlets : List Outlet) → outlets ≡ lengthened never first outlets
 lengthened-never first [] = refl
 lengthened-never first (o ∷ outlets) = ap (λ (l : List Outlet). o ∷ l) (lengthened-never (first + 1) outlets)
 
-lined-never : (IsOne : Entry → Type 0) (first : ℕ) (outlets : List Outlet) → AreLined IsOne never first outlets []
+pub lined-never : (IsOne : Entry → Type 0) (first : ℕ) (outlets : List Outlet) → AreLined IsOne never first outlets []
 lined-never IsOne first [] = refl
 lined-never IsOne first (o ∷ outlets) = inr (refl, lined-never IsOne (first + 1) outlets)
 

@@ -1,5 +1,5 @@
 //! What a stone does on one of its routes.
-ghost use Rattle.std.specs.Prelude.{◌≡◌, [], OnOk, OnErr};
+ghost use Rattle.std.specs.Prelude.{◌≡◌, [], OnOk, OnErr, IfErr};
 ghost use Rattle.evp_stone.specs.Settling.{work_of, HasRoom, Settled, HasEnded};
 ghost use Rattle.evp_action.specs.declared.acted.Acted.TheVariants.{Sent, Arrived, Refused};
 ghost use Rattle.evp_stone.specs.Turning.{keeping};
@@ -28,14 +28,23 @@ pub(crate) struct RouteWork {
 }
 
 impl RouteWork {
-    /// Keeps a record.
-    pub(crate) fn keep(&mut self, index: u32, owned: Arc<Owned, Global>) -> Result<(), AllocError>
+    /// Keeps a record, which is handed back where there is no memory.
+    pub(crate) fn keep(
+        &mut self,
+        index: u32,
+        owned: Arc<Owned, Global>,
+    ) -> Result<(), Arc<Owned, Global>>
         ensures kept { OnOk result (work_of self.new ≡ keeping (work_of self.old) (index, owned)) }
+        ensures back { IfErr result (λ back. back ≡ owned) }
         ensures err { OnErr result (work_of self.new ≡ work_of self.old) }
     {
-        self.kept.reserve(1)?;
-        self.kept.push_back_reserved((index, owned));
-        Ok(())
+        match self.kept.push_back((index, owned)) {
+            Ok(()) => Ok(()),
+            Err(failed) => {
+                let (_, owned) = failed.value;
+                Err(owned)
+            }
+        }
     }
 
     /// Settles what came of the record of this index.

@@ -79,7 +79,7 @@ job_of size items stones rounds =
 abbrev one : Action
 one = Filter 0 (record { tree = expr.number (pos 1); layout = layout Big 8 })
 
-abbrev diamond : JobShape
+abbrev pub diamond : JobShape
 diamond = job_of 8 (owned 7 ∷ [])
     (stone Split (1 ∷ 2 ∷ []) ∷ stone one (3 ∷ []) ∷ stone one (3 ∷ []) ∷ stone (Terminal 0) [] ∷ []) (round 1 [] ∷ [])
 

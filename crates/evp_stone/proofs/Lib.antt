@@ -25,3 +25,4 @@ pub mod Worked
 pub mod Works
 mod Examples
 mod JobExamples
+mod StateExamples

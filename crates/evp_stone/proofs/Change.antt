@@ -12,7 +12,8 @@ use Rattle.evp_stone.specs.Entries.{route_of}
 use Rattle.evp_stone.specs.JobShape.{JobShape}
 use Rattle.evp_stone.specs.Lining.{AreLined, lengthened, one_more}
 use Rattle.evp_stone.specs.Port.{Counting}
-use Rattle.evp_stone.specs.State.{Outlet, RouteWork, StoneWork, GoesOn, HasSent, HasWorked, IsAmong, GoesOut, HasState, in_hand, numbers_of, round_in}
+use Rattle.evp_stone.specs.State.{Outlet, RouteWork, StoneWork, GoesOn, HasSent, HasWorked}
+use Rattle.evp_stone.specs.State.{IsAmong, GoesOut, HasState, in_hand, numbers_of, round_in}
 use Rattle.evp_stone.specs.Tallied.{routes_at}
 use Rattle.evp_stone.proofs.Apart.{same_place, goes_on_once, end_once, number_at}
 use Rattle.evp_stone.proofs.Lined.{AreApart, none_lined, all_lined}

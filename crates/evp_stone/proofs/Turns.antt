@@ -19,7 +19,8 @@ use Rattle.evp_stone.specs.JobShape.{JobShape}
 use Rattle.evp_stone.specs.Lining.{an_end, IsOf, AreLined, lengthened}
 use Rattle.evp_stone.specs.Port.{Counting}
 use Rattle.evp_stone.specs.Route.{last_stone}
-use Rattle.evp_stone.specs.State.{Received, Running, Outlet, RouteWork, StoneWork, HasWorked, IsLastTaken, HasState, in_hand, is_frozen, round_in}
+use Rattle.evp_stone.specs.State.{Received, Running, Outlet, RouteWork, StoneWork}
+use Rattle.evp_stone.specs.State.{HasWorked, IsLastTaken, HasState, in_hand, is_frozen, round_in}
 use Rattle.evp_stone.specs.Tallied.{IsReceived, routes_at}
 use Rattle.evp_stone.specs.Turning.{everywhere, ActedOn, ActedNext, Ended, Deals, HandTurn, keeping, acted_on, round_ended, turned}
 use Rattle.evp_stone.proofs.ActStep.{acts_kept, acts_new, keeps, round_ends, KeptFirst, kept_first}

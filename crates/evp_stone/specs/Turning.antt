@@ -14,7 +14,8 @@ use Rattle.evp_stone.specs.Entries.{StandsForPart, route_of}
 use Rattle.evp_stone.specs.Flow.{item}
 use Rattle.evp_stone.specs.JobShape.{JobShape}
 use Rattle.evp_stone.specs.Lining.{Sending, an_end, IsOf, AreLined, lengthened}
-use Rattle.evp_stone.specs.State.{Received, Running, Outlet, RouteWork, StoneWork, is_frozen, round_in}
+use Rattle.evp_stone.specs.State.{Received, Running, Outlet}
+use Rattle.evp_stone.specs.State.{RouteWork, StoneWork, is_frozen, round_in}
 use Rattle.evp_stone.specs.Tallied.{IsReceived}
 
 -- what was done by one record more, of which this came

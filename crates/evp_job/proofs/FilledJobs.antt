@@ -125,14 +125,15 @@ pub agrees_more : (formats more : List Layout) (declared : ℕ) (action : Action
     → Agrees (formats ++ more) declared action
 agrees_more formats more declared (Filter format test) is = declared_more formats more declared format test.layout is
 agrees_more formats more declared (Router format choose) is = declared_more formats more declared format choose.layout is
-agrees_more formats more declared (Transform format into set) is = (
-  is.0,
-  is.1,
-  declared_more formats more declared format is.0 is.2,
-  declared_more formats more declared into is.1 is.3,
-  All-weaker (IsSetting formats declared format into) (IsSetting (formats ++ more) declared format into)
-      (λ setting agrees. setting_more formats more declared format into setting agrees) set.items is.4,
-)
+agrees_more formats more declared (Transform format into set) is = record {
+  layout = is.layout;
+  second = is.second;
+  first_there = declared_more formats more declared format is.layout is.first_there;
+  second_there = declared_more formats more declared into is.second is.second_there;
+  each = All-weaker (IsSetting formats declared format into) (IsSetting (formats ++ more) declared format into)
+      (λ setting agrees. setting_more formats more declared format into setting agrees) set.items is.each;
+  few = is.few;
+}
 agrees_more formats more declared Split is = tt
 agrees_more formats more declared (Terminal format) is = (is.0, declared_more formats more declared format is.0 is.1)
 

@@ -1,10 +1,10 @@
 -- What holds of the stones of each document that has some.
-use Rattle.std.proofs.Common.{◌≡◌, ℕ, suc, ◌+◌, ◌≤◌, List, [], ◌∷◌, ◌++◌, length, map, Option, Some, None, Result, Ok, Err}
+use Rattle.std.proofs.Common.{◌≡◌, ℕ, suc, ◌+◌, ◌≤◌, List, [], ◌∷◌, ◌++◌, ◌^◌, length, map, Option, Some, None, Result, Ok, Err}
 use Rattle.std.proofs.Common.{All, refl, sym, ap, ◌∙◌, subst, codes, arith}
 use Rattle.std.specs.Option.{ok_or}
 use Rattle.std.proofs.lemmas.List.{length-append}
 use Rattle.std.proofs.lemmas.List.Elements.{All-nil, All-push}
-use Rattle.evp_action.specs.Agreement.{IsDeclared, Binds, IsSetting}
+use Rattle.evp_action.specs.Agreement.{IsDeclared, Binds, IsSetting, AreSettings}
 use Rattle.evp_action.specs.declared.action.Setting.{Setting}
 use Rattle.evp_base.specs.declared.step.Step.TheVariants.{Field, Index}
 use Rattle.evp_eval.specs.Bound.{BoundTree, bound_tree}
@@ -22,7 +22,8 @@ use Rattle.evp_job.specs.Expressions.{Reading, tree_at, bound_at, expression_in}
 use Rattle.evp_job.specs.Formats.{Named}
 use Rattle.evp_job.specs.Forms.{list_within, object_in, no_others}
 use Rattle.evp_job.specs.Kinds.{kind_in}
-use Rattle.evp_job.specs.Settings.{SettingShape, root_fields, settable, set_with, next_set, all_set, settings_in}
+use Rattle.evp_job.specs.Settings.{SettingShape, root_fields, settable, set_with, next_set, all_set, setting_in}
+use Rattle.evp_job.specs.Settings.{settings_in}
 use Rattle.evp_job.specs.Stated.{layouts_of}
 use Rattle.evp_job.specs.Steps.{under, each_in}
 use Rattle.evp_job.specs.Stones.{Declared, text_at, target_at, format_at, declared_in, stone_number, targets_in, targets_at}
@@ -31,17 +32,14 @@ use Rattle.evp_job.specs.Stones.{next_stone, stones_in}
 use Rattle.evp_job.specs.TextShape.{ActionShape, filter, router, transform, split, terminal, StoneShape, stone_with}
 use Rattle.evp_job.proofs.NamedFormats.{declared_kept}
 use Rattle.evp_job.proofs.Settable.{settable_kept}
-use Rattle.evp_job.proofs.WentOn.{went_on, from_under, from_some, the_same, as_many, from_zero, IsEach, each_kept}
+use Rattle.evp_job.proofs.WentOn.{went_on, from_under, from_some, the_same, as_many, from_zero, IsEach, each_kept, none_yet}
 
 -- ---- an action agrees with the declared formats
 
 abbrev pub AgreesWith : List Layout → ℕ → ActionShape → Type 0
 AgreesWith formats declared (filter format test) = Binds formats declared format test
 AgreesWith formats declared (router format choose) = Binds formats declared format choose
-AgreesWith formats declared (transform format into set) =
-    (layout : Layout) × (second : Layout) × IsDeclared formats declared format layout
-    × IsDeclared formats declared into second
-    × All (IsSetting formats declared format into) set
+AgreesWith formats declared (transform format into set) = AreSettings formats declared format into set
 AgreesWith formats declared split = Unit {0}
 AgreesWith formats declared (terminal format) = (layout : Layout) × IsDeclared formats declared format layout
 
@@ -83,7 +81,7 @@ binds formats declared reading k j text made is read =
 
 abbrev AreSet : Named → Declared → Declared → ℕ → List Setting → Type 0
 AreSet formats from into j done =
-    All (IsSetting (layouts_of formats.known) (length formats.known) from.number into.number) done
+    IsEach (IsSetting (layouts_of formats.known) (length formats.known) from.number into.number) j done
 
 one_set : (formats : Named) (from into : Declared) → Is formats from → Is formats into → (reading : Reading) (k : ℕ)
     → (j : ℕ) (done more : List Setting) (said : SettingShape) → AreSet formats from into j done
@@ -101,7 +99,24 @@ one_set formats from into is_from is_into reading k j done more said so_far is =
           (from_some (settable said.field (root_fields into.layout)) (fault.SetTarget k j) field.value field.first);
     } in
     subst (AreSet formats from into (j + 1)) (the_same (done ++ set ∷ []) more value.rest)
-    (All-push (IsSetting (layouts_of formats.known) (length formats.known) from.number into.number) done set so_far right)
+    (record {
+      each = All-push (IsSetting (layouts_of formats.known) (length formats.known) from.number into.number) done set
+          so_far.each right;
+      count = length-append done (set ∷ []) ∙ ap (λ (n : ℕ). n + 1) so_far.count;
+    })
+
+few_settings : (value : Data) (settings : List SettingShape)
+    → under (Field (codes "set")) (settings_in (get (codes "set") value)) ≡ Ok settings → length settings ≤ 64
+unfolding settings_in
+few_settings value settings is =
+    let read = from_under (Field (codes "set")) (settings_in (get (codes "set") value)) settings is in
+    let values = went_on (list_within 0 64 (get (codes "set") value)) _ settings read in
+    let all = each_kept (λ (said : SettingShape). Unit {0}) setting_in (λ value said is. tt {0}) values.value settings values.rest in
+    subst (λ (n : ℕ). n ≤ 64) (sym all.count)
+    (as_many 0 64 (get (codes "set") value) values.value values.first).1
+
+below_their_numbers : (made said : ℕ) → made ≡ said → said ≤ 64 → made ≤ 2 ^ 16
+below_their_numbers made said same few = omega (arith, same, few)
 
 -- ---- targets
 
@@ -189,9 +204,20 @@ transform_kept reading formats k value stone is =
     let all = from_zero (AreSet formats format.value into.value)
     (next_set reading k format.value.layout into.value.layout)
     (one_set formats format.value into.value from_is into_is reading k) [] set.value settings.value
-    (All-nil (IsSetting (layouts_of formats.known) (length formats.known) format.value.number into.value.number)) set.first in
+    (none_yet (IsSetting (layouts_of formats.known) (length formats.known) format.value.number into.value.number)) set.first in
     subst (IsStoneKept formats) (the_same (stone_with (transform format.value.number into.value.number set.value) (target.value ∷ [])) stone set.rest)
-    (record { few = one_of_16 (length (target.value ∷ [])) refl; agrees = (format.value.layout, into.value.layout, from_is, into_is, all) })
+    (record {
+      few = one_of_16 (length (target.value ∷ [])) refl;
+      agrees = record {
+        layout = format.value.layout;
+        second = into.value.layout;
+        first_there = from_is;
+        second_there = into_is;
+        each = all.each;
+        few = below_their_numbers (length set.value) (length settings.value) all.count
+            (few_settings value settings.value settings.first);
+      };
+    })
 
 -- ---- a stone, and all
 

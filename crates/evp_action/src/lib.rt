@@ -14,3 +14,6 @@ mod transforming;
 pub use acted::{Acted, Reason, To};
 pub use acting::act;
 pub use action::{Action, Setting};
+
+#[cfg(test)]
+mod tests;

@@ -34,7 +34,11 @@ pub use sources::SourceText;
 #[cfg(test)]
 mod documents;
 #[cfg(test)]
+mod fill_tests;
+#[cfg(test)]
 mod tests;
+#[cfg(test)]
+mod tests_limits;
 #[cfg(test)]
 mod tests_order;
 #[cfg(test)]

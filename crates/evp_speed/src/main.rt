@@ -15,11 +15,13 @@ mod conversion;
 mod conversions;
 mod convert_lists;
 mod convert_numbers;
+mod documents;
 mod evaluation;
 mod expressions;
 mod queue_alone;
 mod queue_two;
 mod random;
+mod reading;
 mod record_bytes;
 mod several;
 mod step;
@@ -41,6 +43,7 @@ fn main(rt: HostRuntime) -> Result<()> {
     tell_checks(&rt, timed)?;
     tell_conversions(&rt, timed)?;
     tell_expressions(&rt, timed)?;
+    tell_reading(&rt, timed)?;
     let alloc = rt.alloc();
     let alone = Alone {
         rt: &rt,
@@ -176,6 +179,13 @@ fn tell_values(rt: &HostRuntime, timed: bool, name: &'static str, made: &Express
         items: checked(rt.alloc(), &made.format, &made.records)?,
     };
     tell(rt, timed, &evaluation)
+}
+
+fn tell_reading(rt: &HostRuntime, timed: bool) -> Result<()> {
+    let alloc = rt.alloc();
+    tell(rt, timed, &reading::files(alloc)?)?;
+    tell(rt, timed, &documents::generated(alloc)?)?;
+    tell(rt, timed, &documents::megabyte(alloc)?)
 }
 
 // Writes the workload's line.

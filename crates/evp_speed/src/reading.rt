@@ -50,8 +50,10 @@ impl Workload for Reading {
         let count = files.len();
         let whole = count_read(alloc, files, 0);
         let cut = count_read(alloc, files, 1);
-        format!(in alloc; "{whole} records are read of {count} files, \
-            and {cut} without their last byte")
+        format!(in alloc;
+            "{whole} records are read of {count} files, \
+            and {cut} without their last byte"
+        )
     }
 }
 

@@ -38,6 +38,8 @@ mod fill_tests;
 #[cfg(test)]
 mod tests;
 #[cfg(test)]
+mod tests_defaults;
+#[cfg(test)]
 mod tests_limits;
 #[cfg(test)]
 mod tests_order;

@@ -189,7 +189,7 @@ const LISTS: [(&str, &[Piece], &str); 12] = [
 ];
 
 // As above: routes, expressions, and documents that aren't read as JSON.
-const TEXTS: [(&str, &[Piece], &str); 9] = [
+const TEXTS: [(&str, &[Piece], &str); 10] = [
     (
         "1,024 routes: 64 sources, each on a split of 15",
         &[
@@ -296,6 +296,11 @@ const TEXTS: [(&str, &[Piece], &str); 9] = [
     (
         "lists that nest 128 deep",
         &[Times(128, "["), Times(128, "]")],
+        "not json",
+    ),
+    (
+        "lists that nest 200 deep",
+        &[Times(200, "["), Times(200, "]")],
         "not json",
     ),
 ];

@@ -17,3 +17,5 @@ pub use action::{Action, Setting};
 
 #[cfg(test)]
 mod tests;
+#[cfg(test)]
+mod tests_transform;

@@ -39,19 +39,21 @@ const SWAPPED: &[u8] = b"NDF1\x01\x04\0\x01\x01p\0\0\0\x08\0\x02\
 const WIDE_TEXT: &[u8] = b"NDF1\0\x08\0\x01\x01p\0\0\0\x08\0\x01\x01x\x06string\0\0\0\x08\0\0\0\0";
 
 // The numbers of these formats. The first four are declared, and `AGAIN` is equal to `PAIR`.
-const IN_PAIR: u16 = 0;
+pub(crate) const IN_PAIR: u16 = 0;
 
-const IN_SMALL: u16 = 1;
+pub(crate) const IN_SMALL: u16 = 1;
 
-const IN_TEXT: u16 = 3;
+pub(crate) const IN_LISTED: u16 = 2;
 
-const AGAIN: u16 = 4;
+pub(crate) const IN_TEXT: u16 = 3;
 
-const IN_SWAPPED: u16 = 5;
+pub(crate) const AGAIN: u16 = 4;
+
+pub(crate) const IN_SWAPPED: u16 = 5;
 
 const IN_WIDE_TEXT: u16 = 6;
 
-fn formats(alloc: Global) -> Result<[Format; 7], LayoutFault> {
+pub(crate) fn formats(alloc: Global) -> Result<[Format; 7], LayoutFault> {
     Ok([
         read_description(alloc, PAIR)?,
         read_description(alloc, SMALL)?,
@@ -96,7 +98,7 @@ fn acted(
 }
 
 // What comes of a record, in words, where its bytes have a value in the format of this number.
-fn answer(
+pub(crate) fn answer(
     alloc: Global,
     formats: &[Format; 7],
     action: &Action,
@@ -149,7 +151,12 @@ fn refused(alloc: Global, reason: &Reason) -> Result<String, AllocError> {
 }
 
 // The expression, bound to the format of this number.
-fn bound(alloc: Global, formats: &[Format; 7], format: u16, text: &str) -> Result<Bound, Fail>
+pub(crate) fn bound(
+    alloc: Global,
+    formats: &[Format; 7],
+    format: u16,
+    text: &str,
+) -> Result<Bound, Fail>
     requires format { format < 4 }
     ensures { IfOk result (λ bound. Binds formats.now 4 format bound) }
 {

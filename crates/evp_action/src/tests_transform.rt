@@ -1,4 +1,4 @@
-//! What transforms do with pairs: one setting or two, and what refuses.
+//! What transforms do with pairs and arrays: one setting or two, and what refuses.
 ghost use Rattle.std.specs.Prelude.{◌≡◌, ◌≢◌, ◌<◌, ℕ, IfOk, IfSome, Some, IsTrue, slice_get};
 ghost use Rattle.evp_action.specs.Agreement.{Agrees, IsSetting, IsSettable};
 ghost use Rattle.evp_format.specs.declared.field.Field.{Field};
@@ -48,44 +48,44 @@ fn counts_none(fields: &[Field], number: u16) -> bool
     true
 }
 
-// The field of this number set to the expression over the pair, where it may be set.
+// The field of this number set to the expression over the first format, where it may be set.
 fn setting(
     alloc: Global,
     formats: &[Format; 7],
+    format: u16,
     into: u16,
     field: u16,
     text: &str,
 ) -> Result<Option<Setting>, Fail>
+    requires format { format < 4 }
     requires into { into < 4 }
-    ensures { IfOk result (λ found. IfSome found (λ s. IsSetting formats.now 4 0 into s)) }
+    ensures { IfOk result (λ found. IfSome found (λ s. IsSetting formats.now 4 format into s)) }
 {
-    let value = bound(alloc, formats, IN_PAIR, text)?;
+    let value = bound(alloc, formats, format, text)?;
     if !is_settable(&formats[usize::from(into)], field) {
         return Ok(None);
     }
     Ok(Some(Setting { field, value }))
 }
 
-// The transform of a pair with one setting.
+// The transform with one setting.
 fn with_one(
     alloc: Global,
     formats: &[Format; 7],
+    format: u16,
     into: u16,
     field: u16,
     text: &str,
 ) -> Result<Option<Action>, Fail>
+    requires format { format < 4 }
     requires into { into < 4 }
     ensures { IfOk result (λ found. IfSome found (λ action. Agrees formats.now 4 action)) }
 {
-    let Some(first) = setting(alloc, formats, into, field, text)? else {
+    let Some(first) = setting(alloc, formats, format, into, field, text)? else {
         return Ok(None);
     };
     let set = vec![in alloc; first]?;
-    Ok(Some(Action::Transform {
-        format: IN_PAIR,
-        into,
-        set,
-    }))
+    Ok(Some(Action::Transform { format, into, set }))
 }
 
 // The transform of a pair into a pair with two settings, each a field and what it is set to.
@@ -97,10 +97,10 @@ fn with_two(
 ) -> Result<Option<Action>, Fail>
     ensures { IfOk result (λ found. IfSome found (λ action. Agrees formats.now 4 action)) }
 {
-    let Some(first) = setting(alloc, formats, IN_PAIR, one.0, one.1)? else {
+    let Some(first) = setting(alloc, formats, IN_PAIR, IN_PAIR, one.0, one.1)? else {
         return Ok(None);
     };
-    let Some(second) = setting(alloc, formats, IN_PAIR, two.0, two.1)? else {
+    let Some(second) = setting(alloc, formats, IN_PAIR, IN_PAIR, two.0, two.1)? else {
         return Ok(None);
     };
     let set = vec![in alloc; first, second]?;
@@ -111,7 +111,7 @@ fn with_two(
     }))
 }
 
-// What comes of a pair, in words, where the transform's fields may be set.
+// What comes of a record, in words, where the transform's fields may be set.
 fn come_of(
     alloc: Global,
     formats: &[Format; 7],
@@ -127,36 +127,53 @@ fn come_of(
     }
 }
 
-// What comes of a pair by a transform with one setting, where the second format is declared.
+// What comes of a record by a transform with one setting, where its formats are declared.
 fn one_set(
     alloc: Global,
     formats: &[Format; 7],
+    format: u16,
     into: u16,
     text: &str,
     from: u16,
     bytes: &[u8],
 ) -> Result<String, Fail> {
-    if into >= 4 {
+    if format >= 4 || into >= 4 {
         return Ok(String::from_str(alloc, "not declared")?);
     }
-    let action = with_one(alloc, formats, into, 0, text)?;
+    let action = with_one(alloc, formats, format, into, 0, text)?;
     come_of(alloc, formats, &action, from, bytes)
 }
 
-// The number of a second format, what its first field is set to, the number of a record's format,
+// The numbers of a transform's formats, what the second's first field is set to, the number of a record's format,
 // its bytes, and what a transform does.
-const ONE_SET: [(u16, &str, u16, &[u8], &str); 10] = [
+const ONE_SET: [(u16, u16, &str, u16, &[u8], &str); 12] = [
     (
+        IN_PAIR,
         IN_SMALL,
         "x*100",
         IN_PAIR,
         b"\x01\0\0\0\0\0\0\0",
         "all 1 [100]",
     ),
-    (IN_SMALL, "x*100", IN_PAIR, b"\x02\0\0\0\0\0\0\0", "unfit x"),
-    // The second conversion refuses before any setting does.
-    (IN_SMALL, "1/y", IN_PAIR, b"\x80\0\0\0\0\0\0\0", "unfit x"),
     (
+        IN_PAIR,
+        IN_SMALL,
+        "x*100",
+        IN_PAIR,
+        b"\x02\0\0\0\0\0\0\0",
+        "unfit x",
+    ),
+    // The second conversion refuses before any setting does.
+    (
+        IN_PAIR,
+        IN_SMALL,
+        "1/y",
+        IN_PAIR,
+        b"\x80\0\0\0\0\0\0\0",
+        "unfit x",
+    ),
+    (
+        IN_PAIR,
         IN_PAIR,
         "1/y",
         IN_PAIR,
@@ -165,12 +182,14 @@ const ONE_SET: [(u16, &str, u16, &[u8], &str); 10] = [
     ),
     (
         IN_PAIR,
+        IN_PAIR,
         "x+y",
         IN_PAIR,
         b"\x01\0\0\0\x02\0\0\0",
         "all 0 [3, 0, 0, 0, 2, 0, 0, 0]",
     ),
     (
+        IN_PAIR,
         IN_PAIR,
         "x+y",
         IN_SWAPPED,
@@ -179,28 +198,53 @@ const ONE_SET: [(u16, &str, u16, &[u8], &str); 10] = [
     ),
     (
         IN_PAIR,
+        IN_PAIR,
         "170141183460469231731687303715884105727+y",
         IN_PAIR,
         b"\0\0\0\0\x01\0\0\0",
         "overflow Some(0) 39",
     ),
-    (IN_PAIR, "x+y", IN_TEXT, b"\0\0\0\0", "clash x"),
-    (IN_TEXT, "x", IN_PAIR, b"\x01\0\0\0\0\0\0\0", "not settable"),
+    (IN_PAIR, IN_PAIR, "x+y", IN_TEXT, b"\0\0\0\0", "clash x"),
     (
+        IN_PAIR,
+        IN_TEXT,
+        "x",
+        IN_PAIR,
+        b"\x01\0\0\0\0\0\0\0",
+        "not settable",
+    ),
+    (
+        IN_PAIR,
         IN_LISTED,
         "x",
         IN_PAIR,
         b"\x01\0\0\0\0\0\0\0",
         "not settable",
     ),
+    (
+        IN_LISTED,
+        IN_PAIR,
+        "v[v[0]]",
+        IN_LISTED,
+        b"\x01\x05",
+        "all 0 [5, 0, 0, 0, 0, 0, 0, 0]",
+    ),
+    (
+        IN_LISTED,
+        IN_PAIR,
+        "v[v[0]]",
+        IN_LISTED,
+        b"\x02\x05",
+        "index Some(0) 1",
+    ),
 ];
 
 #[test]
 fn transforms_with_one_setting(rt: HostRuntime) -> Result<(), Fail> {
     let formats = formats(rt.alloc())?;
-    for (into, text, from, bytes, want) in ONE_SET {
-        let found = one_set(rt.alloc(), &formats, into, text, from, bytes)?;
-        assert_eq!(rt; found.as_str(), want, "at {text} into {into}");
+    for (format, into, text, from, bytes, want) in ONE_SET {
+        let found = one_set(rt.alloc(), &formats, format, into, text, from, bytes)?;
+        assert_eq!(rt; found.as_str(), want, "at {text} from {format} into {into}");
     }
     Ok(())
 }

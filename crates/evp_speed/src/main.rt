@@ -3,9 +3,15 @@
 //! nanoseconds, of many short batches.
 #![tactic(auto)]
 
-ghost use Rattle.std.specs.Prelude.{◌≡◌};
+ghost use Rattle.std.specs.Prelude.{◌≡◌, All};
+ghost use Rattle.std.specs.Arc.{arc_value};
+ghost use Rattle.evp_action.specs.Agreement.{Agrees};
+ghost use Rattle.evp_cache.specs.Known.{IsCacheOf};
+ghost use Rattle.evp_record.specs.Owned.{HasValueIn};
 ghost use Rattle.evp_plan.specs.Planned.{StandsFor};
 
+mod actions;
+mod acts;
 mod check_deep;
 mod check_generated;
 mod check_numbers;
@@ -23,15 +29,19 @@ mod queue_two;
 mod random;
 mod reading;
 mod record_bytes;
+mod settable;
 mod several;
 mod step;
 mod timing;
 mod workload;
 
+use actions::Monitoring;
+use acts::Acts;
 use anyhow::Result;
 use conversion::{Method, Pair, Way, checked};
 use conversions::{Ready, Whole};
 use evaluation::Evaluation;
+use evp_action::Action;
 use expressions::Expression;
 use queue_alone::Alone;
 use std::env;
@@ -43,6 +53,7 @@ fn main(rt: HostRuntime) -> Result<()> {
     tell_checks(&rt, timed)?;
     tell_conversions(&rt, timed)?;
     tell_expressions(&rt, timed)?;
+    tell_actions(&rt, timed)?;
     tell_reading(&rt, timed)?;
     let alloc = rt.alloc();
     let alone = Alone {
@@ -179,6 +190,42 @@ fn tell_values(rt: &HostRuntime, timed: bool, name: &'static str, made: &Express
         items: checked(rt.alloc(), &made.format, &made.records)?,
     };
     tell(rt, timed, &evaluation)
+}
+
+fn tell_actions(rt: &HostRuntime, timed: bool) -> Result<()> {
+    let alloc = rt.alloc();
+    let job = actions::job(alloc)?;
+    let filter = actions::filter(alloc, &job.formats)?;
+    tell_acts(rt, timed, "act_filter", &job, &filter)?;
+    let router = actions::router(alloc, &job.formats)?;
+    tell_acts(rt, timed, "act_router", &job, &router)?;
+    let transform = actions::transform(alloc, &job.formats)?;
+    tell_acts(rt, timed, "act_transform", &job, &transform)?;
+    let terminal = actions::terminal(&job.formats);
+    tell_acts(rt, timed, "act_terminal", &job, &terminal)
+}
+
+// Does the action with the job's records.
+fn tell_acts(
+    rt: &HostRuntime,
+    timed: bool,
+    name: &'static str,
+    job: &Monitoring,
+    action: &Action,
+) -> Result<()>
+    requires cache { IsCacheOf job.now.cache job.now.formats }
+    requires agrees { Agrees job.now.formats job.now.cache.declared action.now }
+    requires sent { All (λ item. HasValueIn job.now.formats (arc_value item)) job.now.sent.items }
+{
+    let acts = Acts {
+        name,
+        alloc: rt.alloc(),
+        action,
+        formats: &job.formats,
+        cache: &job.cache,
+        items: &job.sent,
+    };
+    tell(rt, timed, &acts)
 }
 
 fn tell_reading(rt: &HostRuntime, timed: bool) -> Result<()> {

@@ -1,8 +1,8 @@
+mod AmongEnding
 mod Chains
 mod ElementsLeft
 mod Escapes
 mod FieldsLeft
-mod Found
 mod Idle
 mod JobParts
 mod ReportExamples

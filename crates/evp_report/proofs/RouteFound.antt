@@ -1,53 +1,21 @@
 -- Where the account of a route stands among those of its last stone.
 use Rattle.std.proofs.Common.{◌≡◌, ℕ, zero, suc, ◌-◌, ◌<◌, ◌≤◌, ◌==◌, true, List, [], ◌∷◌, length, get_or}
 use Rattle.std.proofs.Common.{Some, None, Result, Ok, Err, refl, sym, ap, ◌∙◌, subst, arith}
-use Rattle.std.specs.List.{AllZip, Contains, slice_get}
+use Rattle.std.specs.List.{AllZip, slice_get}
 use Rattle.std.specs.List.Sorted.{IsSearchInRange, IsBinarySearchResult}
 use Rattle.std.specs.Ordering.{nat_cmp}
 use Rattle.std.proofs.lemmas.Bool.Decides.{nat_tests}
-use Rattle.std.proofs.lemmas.List.{length-map}
-use Rattle.std.proofs.lemmas.List.Elements.{All-contains}
-use Rattle.std.proofs.lemmas.Option.{get_or_from_slice_get, slice_get_within, slice_get-get_or, slice_get_read}
+use Rattle.std.proofs.lemmas.Option.{slice_get-get_or, slice_get_read}
 use Rattle.std.proofs.lemmas.Slice.Zip.{AllZip-long}
 use Rattle.evp_graph.specs.declared.route.Route.{Route}
-use Rattle.evp_graph.specs.Routes.{Steps, Visits}
-use Rattle.evp_graph.specs.Shape.{Shape, HaveTargets, IsSound}
-use Rattle.evp_graph.proofs.Paths.{target_below}
-use Rattle.evp_stone.proofs.Routes.{is_route_at}
 use Rattle.evp_stone.specs.declared.account.Account.{Account}
 use Rattle.evp_stone.specs.declared.account.RouteAccount.{RouteAccount}
-use Rattle.evp_stone.specs.declared.stone.Stone.{Stone}
-use Rattle.evp_stone.specs.Job.{IsJob}
-use Rattle.evp_stone.specs.JobShape.{JobShape, graph_of}
+use Rattle.evp_stone.specs.JobShape.{JobShape}
 use Rattle.evp_stone.specs.Route.{last_of, last_stone}
 use Rattle.evp_stone.specs.Tallied.{IsRouteAccount, routes_at}
 use Rattle.evp_stone.specs.WholeAccounts.{AreAccounts}
-use Rattle.evp_report.proofs.Found.{ending-in, ending-rises, found}
-
-last_below : (targets : List (List ℕ)) → HaveTargets targets → (a : ℕ) (positions stones : List ℕ) → a < length targets
-    → Steps targets a positions stones → last_of (a ∷ stones) < length targets
-last_below targets have a [] [] below steps = below
-last_below targets have a [] (b ∷ stones) below steps = absurd steps
-last_below targets have a (p ∷ positions) [] below steps = absurd steps
-last_below targets have a (p ∷ positions) (b ∷ stones) below steps =
-    last_below targets have b positions stones (target_below targets have a p b below steps.0) steps.1
-
-visits_last : (graph : Shape) → IsSound graph → (source : ℕ) (positions stones : List ℕ) → Visits graph source positions stones
-    → last_of stones < length graph.targets
-visits_last graph sound source positions [] visits = absurd visits
-visits_last graph sound source positions (first ∷ others) visits =
-    let there : Contains graph.sources first =
-    (source, slice_get_within graph.sources source first visits.0, get_or_from_slice_get graph.sources source first first visits.0) in
-    last_below graph.targets sound.targets first positions others
-    (All-contains (λ n. n < length graph.targets) graph.sources first sound.sources there) visits.1
-
--- the last stone of a job's route is one of its stones
-pub last_stone_below : (job : JobShape) → IsJob job → (number : ℕ) (route : Route) → slice_get job.routes number ≡ Some route
-    → last_stone route < length job.stones
-last_stone_below job is number route there =
-    let visits = is_route_at (graph_of job) job.routes number route is.listed there in
-    subst (λ n. last_stone route < n) (length-map job.stones (λ (s : Stone). s.targets))
-    (visits_last (graph_of job) is.sound route.source route.positions route.stones visits)
+use Rattle.evp_report.proofs.AmongEnding.{ending-in}
+use Rattle.evp_stone.proofs.Found.{ending-rises, found}
 
 zip_at : {A B : Type 0} (R : A → B → Type 0) (xs : List A) (ys : List B) (i : ℕ) (d : A) (e : B) → AllZip R xs ys → i < length xs
     → R (get_or xs i d) (get_or ys i e)

@@ -1,7 +1,8 @@
 use Rattle.std.proofs.Common.{◌∙◌, arith, length, refl}
 use Rattle.std.proofs.lemmas.Option.{slice_get_read}
 use Rattle.evp_report.proofs.JobParts.{routes_of_parts}
-use Rattle.evp_report.proofs.RouteFound.{account_found, found_at, last_stone_below, not_missed}
+use Rattle.evp_stone.proofs.LastStones.{last_stone_below}
+use Rattle.evp_report.proofs.RouteFound.{account_found, found_at, not_missed}
 use Rattle.evp_report.proofs.accounts.route_account.Goals as goal
 
 pub bounds-accounts-from : goal.bounds-accounts-from

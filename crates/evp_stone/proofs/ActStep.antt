@@ -83,6 +83,34 @@ module _ (job : JobShape) (taken given : Counting) (hand : Option Entry) (here :
       (passes_by job given was.route position old ends round was.done c waiting before (delivers.elsewhere position here_not) none))
       (bool_cases (goes (0 + position)))
 
+  -- where the stone isn't frozen in the round: what it acted on and keeps, and what it acts on in all
+  thawed_works : (kept : List Carried) → was.kept ≡ kept → is_frozen job stone round ≡ false
+      → Works false (held_before job was.route round ++ was.new) was.done kept
+  thawed_works kept is thawed =
+      let records = held_before job was.route round ++ was.new in
+      subst (λ (l : List Carried). Works false records was.done l) is
+      (subst (λ (b : Bool). Works b records was.done was.kept) thawed was.works)
+
+  thawed_round : (came : List Carried) → slice_get (arrivals job was.route) round ≡ Some came → is_frozen job stone round ≡ false
+      → slice_get (rounds_of job was.route) round ≡ Some (round_of false (held_before job was.route round ++ came))
+  thawed_round came there thawed =
+      round_there job was.route ends round came there
+      ∙ ap (λ (b : Bool). Some (round_of b (held_before job was.route round ++ came))) thawed
+
+  -- the first record that it keeps is the one on which it acts next
+  pub next_of_kept : (c : Carried) (others later : List Carried) → was.kept ≡ c ∷ others → is_frozen job stone round ≡ false
+      → slice_get (arrivals job was.route) round ≡ Some (was.new ++ later) → ActsNext (rounds_of job was.route) round was.done c
+  next_of_kept c others later kept thawed came =
+      next_kept (rounds_of job was.route) round (held_before job was.route round) was.new later was.done others c
+      (thawed_round (was.new ++ later) came thawed) (thawed_works (c ∷ others) kept thawed)
+
+  -- or, where it keeps none, the next one that comes
+  pub next_of_new : (c : Carried) (later : List Carried) → was.kept ≡ [] → is_frozen job stone round ≡ false
+      → slice_get (arrivals job was.route) round ≡ Some (was.new ++ c ∷ later) → ActsNext (rounds_of job was.route) round was.done c
+  next_of_new c later none thawed came =
+      next_new (rounds_of job was.route) round (held_before job was.route round) was.new later was.done c
+      (thawed_round (was.new ++ c ∷ later) came thawed) (thawed_works [] none thawed)
+
   -- it acts on the first record that it keeps
   pub acts_kept : (c : Carried) (goes : ℕ → Bool) (sending : Sending) (waiting : List Entry) (rest : List (ℕ × Arc OwnedBytes Global))
       (others later : List Carried) (running : Running)
@@ -95,12 +123,7 @@ module _ (job : JobShape) (taken given : Counting) (hand : Option Entry) (here :
       → HasWorked job taken given hand waiting (acted_on here (lengthened goes 0 here.outlets) rest running)
   acts_kept c goes sending waiting rest others later running kept stored thawed came counts delivers lined =
       let records = held_before job was.route round ++ was.new in
-      let works : Works false records was.done (c ∷ others) =
-      subst (λ (l : List Carried). Works false records was.done l) kept
-      (subst (λ (b : Bool). Works b records was.done was.kept) thawed was.works) in
-      let there = round_there job was.route ends round (was.new ++ later) came
-      ∙ ap (λ (b : Bool). Some (round_of b (held_before job was.route round ++ (was.new ++ later)))) thawed in
-      let next = next_kept (rounds_of job was.route) round (held_before job was.route round) was.new later was.done others c there works in
+      let next = next_of_kept c others later kept thawed came in
       record {
         route = was.route;
         there = was.there;
@@ -112,7 +135,7 @@ module _ (job : JobShape) (taken given : Counting) (hand : Option Entry) (here :
         done = was.done ++ c ∷ [];
         kept = others;
         works = subst (λ (b : Bool). Works b records (was.done ++ c ∷ []) others) (sym thawed)
-            (works_first records was.done others c works);
+            (works_first records was.done others c (thawed_works (c ∷ others) kept thawed));
         stored = stored;
         ended = was.ended;
         running = tallied_more job.formats (act_of job) stone here.running running was.done c was.running counts;
@@ -127,7 +150,7 @@ put_down taken route handled entry on was =
     was ∙ ap (λ (b : Bool). Some (handled + (if b then 1 else 0))) (eq-eqb (route_of entry) route on)
     ∙ ap Some (sym (add-zero (handled + 1)))
 
-none_stored : {A B : Type 0} (R : A → B → Type 0) (ys : List B) → AllZip R [] ys → ys ≡ []
+pub none_stored : {A B : Type 0} (R : A → B → Type 0) (ys : List B) → AllZip R [] ys → ys ≡ []
 none_stored R [] all = refl
 none_stored R (y ∷ ys) all = absurd all
 
@@ -202,12 +225,8 @@ module _ (job : JobShape) (taken given : Counting) (entry : Entry) (here : Route
       let before = held_before job was.route its_round in
       let none : was.kept ≡ [] = none_stored (IsReceived job.formats) was.kept
       (subst (λ l. AllZip (IsReceived job.formats) l was.kept) empty was.stored) in
-      let works : Works false (before ++ was.new) was.done [] =
-      subst (λ (l : List Carried). Works false (before ++ was.new) was.done l) none
-      (subst (λ (b : Bool). Works b (before ++ was.new) was.done was.kept) thawed was.works) in
-      let there = round_there job was.route ends its_round (was.new ++ holds.c ∷ holds.later) holds.there
-      ∙ ap (λ (b : Bool). Some (round_of b (before ++ (was.new ++ holds.c ∷ holds.later)))) thawed in
-      let next = next_new (rounds_of job was.route) its_round before was.new holds.later was.done holds.c there works in
+      let works = thawed_works job taken given (Some entry) here was ends [] none thawed in
+      let next = next_of_new job taken given (Some entry) here was ends holds.c holds.later none thawed holds.there in
       let front = front_record (arrivals job was.route) was.handled its_round was.new holds.later holds.c holds.there (sym was.came.long) in
       record {
         route = was.route;

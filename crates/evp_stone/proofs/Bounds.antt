@@ -56,11 +56,11 @@ length-flow first (new ∷ arrivals) =
       length-map new item,
     )
 
-length-carried : (formats : List _) (index : ℕ) (items : List _) → length (carried_from formats index items) ≡ length items
+pub length-carried : (formats : List _) (index : ℕ) (items : List _) → length (carried_from formats index items) ≡ length items
 length-carried formats index [] = refl
 length-carried formats index (i ∷ items) = ap suc (length-carried formats (index + 1) items)
 
-few_items : (job : JobShape) → IsJob job → (source : Option Source) (k : ℕ) → slice_get job.sources k ≡ source
+pub few_items : (job : JobShape) → IsJob job → (source : Option Source) (k : ℕ) → slice_get job.sources k ≡ source
     → length (items_of source) ≤ 131072
 few_items job is None k at = omega arith
 few_items job is (Some source) k at =

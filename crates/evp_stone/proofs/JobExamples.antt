@@ -45,7 +45,7 @@ abbrev owned : ℕ → OwnedBytes
 owned n = record { format = 1; bytes = n ∷ 0 ∷ 0 ∷ 0 ∷ [] }
 
 -- what it is when it comes from the file, and when it was converted into format 0
-abbrev as_sent : ℕ → ℕ → Carried
+abbrev pub as_sent : ℕ → ℕ → Carried
 as_sent index n = record { index = index; format = 1; value = value n }
 
 abbrev as_received : ℕ → ℕ → Carried
@@ -96,7 +96,7 @@ filter_flow : flow diamond 2 ≡ facts diamond.formats (item (as_received 0 7) �
 filter_flow = refl
 
 -- five records, of which the terminal keeps three for a round
-abbrev line : List ℕ → JobShape
+abbrev pub line : List ℕ → JobShape
 line frozen = job_of 4 (owned 1 ∷ owned 2 ∷ owned 3 ∷ owned 4 ∷ owned 5 ∷ [])
     (stone Split (1 ∷ []) ∷ stone (Terminal 0) [] ∷ []) (round 3 (1 ∷ []) ∷ round 2 frozen ∷ [])
 

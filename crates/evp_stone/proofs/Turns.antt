@@ -26,7 +26,7 @@ use Rattle.evp_stone.specs.Turning.{everywhere, ActedOn, ActedNext, Ended, Deals
 use Rattle.evp_stone.proofs.ActStep.{acts_kept, acts_new, keeps, round_ends, KeptFirst, kept_first}
 use Rattle.evp_stone.proofs.Apart.{end_at, number_at}
 use Rattle.evp_stone.proofs.Change.{changed}
-use Rattle.evp_stone.proofs.HandStep.{StandsAt, held_part, held_next, holds_item, holds_mark}
+use Rattle.evp_stone.proofs.HandStep.{StandsAt, HoldsItem, held_part, held_next, holds_item, holds_mark}
 use Rattle.evp_stone.proofs.JobFacts.{routes_apart, ends_at}
 use Rattle.evp_stone.proofs.Routes.{HasEnds}
 
@@ -63,20 +63,20 @@ lined-never IsOne first (o ∷ outlets) = inr (refl, lined-never IsOne (first + 
 module _ (job : JobShape) (is_job : IsJob job) (taken given : Counting) (old : StoneWork) (state : HasState job taken given old)
     (none : old.waiting ≡ []) (entry : Entry) (in_it : old.hand ≡ Some entry) (place : ℕ) (here : RouteWork)
     (at : slice_get old.routes place ≡ Some here) (on : route_of entry ≡ here.route) where
-  was : HasWorked job taken given (Some entry) [] here
+  pub was : HasWorked job taken given (Some entry) [] here
   was = subst (λ (h : Option Entry). HasWorked job taken given h [] here) in_it
       (subst (λ (l : List Entry). HasWorked job taken given old.hand l here) none (state.each place here at))
 
-  ends : HasEnds was.route
+  pub ends : HasEnds was.route
   ends = ends_at job is_job here.route was.route was.there
 
   last : IsLastTaken job taken old.routes entry
   last = state.hand entry in_it
 
-  stands : StandsAt job was.route was.handled entry
+  pub stands : StandsAt job was.route was.handled entry
   stands = held_part job taken given [] here entry was on last.count last.placed
 
-  its : last_stone was.route ≡ old.stone
+  pub its : last_stone was.route ≡ old.stone
   its = its_last job taken given old state place here was.route at was.there
 
   empties : (e : Entry) → None ≡ Some e → old.hand ≡ Some e
@@ -85,29 +85,33 @@ module _ (job : JobShape) (is_job : IsJob job) (taken given : Counting) (old : S
   others : (route : ℕ) → route ≢ here.route → in_hand route old.hand ≡ in_hand route None
   others route apart = ap (in_hand route) in_it ∙ hand_moves route here.route entry on apart
 
-  frozen_is : (b : Bool) → is_frozen job old.stone (round_in here) ≡ b → is_frozen job (last_stone was.route) (round_in here) ≡ b
+  pub frozen_is : (b : Bool) → is_frozen job old.stone (round_in here) ≡ b → is_frozen job (last_stone was.route) (round_in here) ≡ b
   frozen_is b is = ap (λ (stone : ℕ). is_frozen job stone (round_in here)) its ∙ is
+
+  -- the record in hand is the next of its round
+  pub holds_of : (number position index : ℕ) (owned : Arc OwnedBytes Global) → entry ≡ Item number position index owned
+      → HoldsItem job was.route (round_in here) was.handled was.new index owned
+  holds_of number position index owned is =
+      holds_item job was.route (round_in here) was.handled was.new number position index owned stands.part
+      (subst (λ (e : Entry). StandsForPart job.formats e stands.part) is stands.stands)
+      (held_next job taken given [] here entry was stands)
 
   -- the record in hand is kept
   turn_keeps : (number position index : ℕ) (owned : Arc OwnedBytes Global) → entry ≡ Item number position index owned
       → is_frozen job old.stone (round_in here) ≡ true
       → HasState job taken given (turned old [] None place (keeping here (index, owned)))
   turn_keeps number position index owned is frozen =
-      let holds = holds_item job was.route (round_in here) was.handled was.new number position index owned stands.part
-      (subst (λ (e : Entry). StandsForPart job.formats e stands.part) is stands.stands)
-      (held_next job taken given [] here entry was stands) in
+      let holds = holds_of number position index owned is in
       changed job taken given old state none (routes_apart job is_job) place here (keeping here (index, owned)) at never (IsOf (an_end 0)) []
       (record { route = refl; outlets = lengthened-never 0 here.outlets; waits = lined-never (IsOf (an_end 0)) 0 here.outlets })
       None empties others
       (keeps job taken given entry here was ends on index owned holds (frozen_is true frozen))
 
   -- what comes in the round from the entry in hand on
-  later_of : (e : Entry) → entry ≡ e
+  pub later_of : (e : Entry) → entry ≡ e
       → (later : List Carried) × (slice_get (arrivals job was.route) (round_in here) ≡ Some (was.new ++ later))
   later_of (Item number position index owned) is =
-      let holds = holds_item job was.route (round_in here) was.handled was.new number position index owned stands.part
-      (subst (λ (e : Entry). StandsForPart job.formats e stands.part) is stands.stands)
-      (held_next job taken given [] here entry was stands) in
+      let holds = holds_of number position index owned is in
       (holds.c ∷ holds.later, holds.there)
   later_of (Mark number position round) is =
       let holds = holds_mark job was.route (round_in here) was.new number position round stands.part
@@ -151,9 +155,7 @@ module _ (job : JobShape) (is_job : IsJob job) (taken given : Counting) (old : S
       → is_frozen job old.stone (round_in here) ≡ false → here.kept ≡ []
       → ActedNext job old new place here (index, owned) [] None → HasState job taken given new
   turn_new new number position index owned is thawed kept next =
-      let holds = holds_item job was.route (round_in here) was.handled was.new number position index owned stands.part
-      (subst (λ (e : Entry). StandsForPart job.formats e stands.part) is stands.stands)
-      (held_next job taken given [] here entry was stands) in
+      let holds = holds_of number position index owned is in
       let acted = as_last next.waiting next.outlets next.running holds.c (next.acts holds.c (holds.index_is, holds.that)) in
       let made = acts_new job taken given entry here was ends on index owned acted.goes acted.sending next.waiting next.running holds
       (frozen_is false thawed) kept acted.counts acted.delivers acted.waits in

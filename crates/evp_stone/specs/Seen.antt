@@ -1,14 +1,7 @@
--- What a stone's actor is seen as, and its turns at the port.
-use Rattle.std.specs.Prelude.{◌≡◌, ℕ, ◌∷◌, map, Some, slice_get}
-use Rattle.evp_graph.specs.declared.route.Route.{Route}
+-- What a stone's actor is seen as.
+use Rattle.std.specs.Prelude.{◌∷◌, map, Some}
 use Rattle.evp_stone.specs.declared.entry.Entry.{Entry}
-use Rattle.evp_stone.specs.declared.turn.Turn.{Turn}
-use Rattle.evp_stone.specs.declared.turn.Turn.TheVariants.{Moved, Idle, Blocked, Closed, Memory}
 use Rattle.evp_stone.specs.declared.worker.Worker.{Worker}
-use Rattle.evp_stone.specs.Entries.{route_of}
-use Rattle.evp_stone.specs.JobShape.{JobShape}
-use Rattle.evp_stone.specs.Port.{Rose}
-use Rattle.evp_stone.specs.Route.{last_stone}
 use Rattle.evp_stone.specs.Settling.{work_of}
 use Rattle.evp_stone.specs.State.{StoneWork}
 
@@ -29,23 +22,6 @@ gives work entry = record {
   routes = work.routes;
 }
 
--- the entry waits first again, since there was no room at its stone
-pub record IsBlocked (job : JobShape) (fulls later : ℕ → ℕ) (entry : Entry) (old new : StoneWork)
-    (target : ℕ) : Type 0 where
-  pub route : Route
-  pub there : slice_get job.routes (route_of entry) ≡ Some route
-  pub last : last_stone route ≡ target
-  pub rose : Rose (fulls target) (later target)
-  pub waits : new ≡ gives old entry
-
--- the turn gave the entry, or handed it back; before it the others waited
-abbrev pub Gave : JobShape → (ℕ → ℕ) → (ℕ → ℕ) → Entry → StoneWork → StoneWork → Turn → Type 0
-Gave job fulls later entry old new Moved = new ≡ old
-Gave job fulls later entry old new Idle = ⊥
-Gave job fulls later entry old new (Blocked target) = IsBlocked job fulls later entry old new target
-Gave job fulls later entry old new Closed = ⊥
-Gave job fulls later entry old new Memory = new ≡ gives old entry
-
 -- the stone with this entry in hand
 abbrev pub holding : StoneWork → Entry → StoneWork
 holding work entry = record {
@@ -54,11 +30,3 @@ holding work entry = record {
   hand = Some entry;
   routes = work.routes;
 }
-
--- the turn took an entry, or there was none
-abbrev pub Took : ℕ → ℕ → StoneWork → StoneWork → Turn → Type 0
-Took empties later old new Moved = (entry : Entry) × (new ≡ holding old entry)
-Took empties later old new Idle = (new ≡ old) × Rose empties later
-Took empties later old new (Blocked target) = ⊥
-Took empties later old new Closed = ⊥
-Took empties later old new Memory = ⊥

@@ -1,11 +1,13 @@
 //! What an actor asks of its job.
-ghost use Rattle.std.specs.Prelude.{◌≡◌, ◌<◌, Some, length, slice_get};
+ghost use Rattle.std.specs.Prelude.{◌≡◌, ℕ, ◌<◌, ◌↔◌, Some, length, slice_get, IsTrue};
 ghost use Rattle.evp_graph.specs.declared.route.Route.{Route};
 ghost use Rattle.evp_stone.specs.Route.{last_stone, last_of};
+ghost use Rattle.evp_stone.specs.Starting.{IsAlong};
 ghost use Rattle.evp_queue.specs.Counts as among;
 ghost use Rattle.evp_stone.specs.State as state;
 
 use crate::job::Job;
+use evp_graph::Route;
 
 // Whether the number is among these.
 fn is_among(numbers: &[u16], number: u16) -> bool
@@ -51,4 +53,26 @@ pub(crate) fn is_frozen(job: &Job, stone: u16, round: usize) -> bool
         return true;
     }
     is_among(rounds[round].frozen.as_slice(), stone)
+}
+
+/// The number of the route from a source along positions, which is there.
+pub(crate) fn number_along(job: &Job, source: u16, positions: &[u16]) -> u16
+    requires { (number : ℕ) × IsAlong job.now source positions.now number }
+    ensures { IsAlong job.now source positions.now result }
+{
+    let routes = job.parts().routes.as_slice();
+    for number in 0..routes.len() {
+        if is_along(&routes[number], source, positions) {
+            return number as u16;
+        }
+    }
+    unreachable!()
+}
+
+// Whether a route is that from a source along positions.
+fn is_along(route: &Route, source: u16, positions: &[u16]) -> bool
+    ensures { IsTrue result ↔ ((route.now.source ≡ source)
+        × (route.now.positions ≡ positions.now)) }
+{
+    route.source == source && route.positions.as_slice() == positions
 }

@@ -9,8 +9,7 @@ use std::sync::Arc;
 #[derive(Drop)]
 pub enum Entry {
     /// The number of the route, the position in the route's flow, the record's index in its
-    /// source's
-    /// file, and the record.
+    /// source's file, and the record.
     Item(u16, u32, u32, Arc<Owned, Global>),
     /// The number of the route, the position in the route's flow, and the round.
     Mark(u16, u32, u32),

@@ -2,14 +2,22 @@
 #![tactic(auto)]
 
 mod account;
+mod acting;
+mod actor;
 mod asking;
+mod closing;
+mod dealing;
 mod entry;
+mod feeder;
 mod job;
 mod laws;
+mod opening;
 mod outlet;
+mod places;
 mod port;
 mod round;
 mod route_work;
+mod shared;
 mod source;
 mod stone;
 #[cfg(test)]
@@ -18,6 +26,7 @@ mod turn;
 mod worker;
 
 pub use account::{Account, RoundAccount, RouteAccount};
+pub use actor::Actor;
 pub use entry::Entry;
 pub use job::{Job, JobParts};
 pub use laws::rounds_begin_the_whole;

@@ -23,8 +23,12 @@ pub trait Port {
     /// How often there was no room at the stone of this number.
     ghost fulls: { Self → ℕ → ℕ };
 
+    /// What else holds of a port before and behind each call: an implementation's own.
+    ghost moves: { Self → Self → Type 0 };
+
     /// Takes an entry, the next of its route. None only where there was nothing to take.
     fn take(&mut self) -> Option<Entry>
+        ensures moves { moves self.old self.new }
         ensures job { (job : JobShape) → is_of self.old job → is_of self.new job }
         ensures given { (route : ℕ) → given self.new route ≡ given self.old route }
         ensures fulls { (target : ℕ) → fulls self.old target ≤ fulls self.new target }
@@ -38,6 +42,7 @@ pub trait Port {
     /// was no room. An entry that isn't given is handed back.
     fn give(&mut self, target: u16, entry: Entry) -> Result<(), Given<Entry>>
         requires { IsNext (is_of self.old) (given self.old) target entry }
+        ensures moves { moves self.old self.new }
         ensures job { (job : JobShape) → is_of self.old job → is_of self.new job }
         ensures taken { (route : ℕ) → taken self.new route ≡ taken self.old route }
         ensures fulls { (stone : ℕ) → fulls self.old stone ≤ fulls self.new stone }

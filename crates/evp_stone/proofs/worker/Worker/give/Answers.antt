@@ -69,15 +69,19 @@ returns-in-Err-Full-clause-gave g c =
     let target = c.target_of-target.result in
     let entry = full_back c.args.entry c.in-Err-Full.entry c.in-Err-Full.field-0
     (Rose (g.P.Port.fulls before target) (g.P.Port.fulls after target)) c.in-Err-Full.field-0-is c.in-Err-Full.ensures.back.cause in
-    let go = first_goes job (g.P.Port.taken before) (g.P.Port.given before) (seen c.args.self.now) c.args.entry c.requires.state in
-    record {
-      route = go.longer;
-      there = go.there;
-      last = sym (c.target_of-target.ensures go.longer (ap (slice_get job.routes) c.route.ensures ∙ go.there));
-      rose = entry.1;
-      waits = waits_again (seen c.args.self.now) c.args.entry c.in-Err-Full.entry c.push_front_reserved.new.self.items entry.0
-          c.push_front_reserved.ensures.items;
-    }
+    let go = first_goes job (g.P.Port.taken before) (g.P.Port.given before) (seen c.args.self.now) c.args.entry c.requires.state in (
+      record {
+        same = record { taken = c.in-Err-Full.ensures.taken; given = c.in-Err-Full.ensures.back.same };
+        leads = record {
+          route = go.longer;
+          there = go.there;
+          last = sym (c.target_of-target.ensures go.longer (ap (slice_get job.routes) c.route.ensures ∙ go.there));
+        };
+        rose = entry.1;
+      },
+      waits_again (seen c.args.self.now) c.args.entry c.in-Err-Full.entry c.push_front_reserved.new.self.items entry.0
+          c.push_front_reserved.ensures.items,
+    )
 
 pub returns-in-Err-Memory-clause-state : goal.returns-in-Err-Memory-clause-state
 returns-in-Err-Memory-clause-state g c =
@@ -93,3 +97,16 @@ returns-in-Err-Memory-clause-state g c =
     subst (HasState job (g.P.Port.taken after) (g.P.Port.given after)) (sym again)
     (stayed job (g.P.Port.taken before) (g.P.Port.taken after) (g.P.Port.given before) (g.P.Port.given after)
     (gives (seen c.args.self.now) c.args.entry) c.in-Err-Memory.ensures.taken back.same c.requires.state)
+
+pub returns-in-Err-Memory-clause-gave : goal.returns-in-Err-Memory-clause-gave
+returns-in-Err-Memory-clause-gave g c =
+    let before = c.args.port.now in
+    let after = c.give.new.self in
+    let back = c.in-Err-Memory.ensures.back in
+    let target = c.target_of-target.result in
+    let entry = memory_back c.args.entry c.in-Err-Memory.entry c.in-Err-Memory.field-0
+    (Rose (g.P.Port.fulls before target) (g.P.Port.fulls after target)) c.in-Err-Memory.field-0-is back.cause in (
+      record { taken = c.in-Err-Memory.ensures.taken; given = back.same },
+      waits_again (seen c.args.self.now) c.args.entry c.in-Err-Memory.entry c.push_front_reserved-in-Err-Memory.new.self.items entry
+          c.push_front_reserved-in-Err-Memory.ensures.items,
+    )

@@ -1,0 +1,57 @@
+//! The account of a stone's actor whose rounds have all ended.
+ghost use Rattle.std.specs.Prelude.{◌≡◌, ◌≤◌, [], map, vec_len, vec_capacity};
+ghost use Rattle.evp_stone.specs.Closing.{account_of, HasRoomFor};
+ghost use Rattle.evp_stone.specs.Job.{IsJob};
+ghost use Rattle.evp_stone.specs.JobShape.{JobShape};
+ghost use Rattle.evp_stone.specs.Port.{Counting};
+ghost use Rattle.evp_stone.specs.Seen.{seen};
+ghost use Rattle.evp_stone.specs.State.{HasState};
+ghost use Rattle.evp_stone.specs.Tallied.{IsAccount};
+ghost use Rattle.evp_stone.specs.Turned.{HasEnded};
+
+use crate::account::{Account, RouteAccount};
+use crate::route_work::RouteWork;
+use crate::worker::Worker;
+
+impl Worker {
+    /// The account of the stone, with how many plans it built and how many of its turns found no
+    /// memory. Takes no memory.
+    pub(crate) fn account(self, builds: u64, starved: u64) -> Account
+        requires { HasRoomFor self }
+        ensures stone { result.stone ≡ (seen self).stone }
+        ensures builds { result.builds ≡ builds }
+        ensures starved { result.starved ≡ starved }
+        ensures account { (job : JobShape) (taken given : Counting) → IsJob job
+            → HasState job taken given (seen self) → HasEnded job (seen self)
+            → IsAccount job result }
+    {
+        Account {
+            stone: self.stone,
+            routes: accounts(self.routes, self.room),
+            builds,
+            starved,
+        }
+    }
+}
+
+// The accounts of these routes, in the room for them.
+fn accounts(works: Vec<RouteWork>, mut room: Vec<RouteAccount>) -> Vec<RouteAccount>
+    requires none { room.items ≡ [] }
+    requires enough { vec_len works ≤ vec_capacity room }
+    ensures { result.items ≡ map account_of works.items }
+{
+    for work in works {
+        room.push_reserved(account_of(work));
+    }
+    room
+}
+
+// The account of a route.
+fn account_of(work: RouteWork) -> RouteAccount
+    ensures { result ≡ account_of work }
+{
+    RouteAccount {
+        route: work.route,
+        rounds: work.ended,
+    }
+}

@@ -32,10 +32,6 @@ module _ (IsOne : Entry → Type 0) (goes : ℕ → Bool) where
     pub so_far : (rest : List Entry) → AreLined IsOne goes position (drop position outlets) rest
         → AreLined IsOne goes 0 outlets (entries ++ rest)
 
-  pub lined_none : (outlets : List state.Outlet) (entries : List Entry) → entries ≡ [] → LinedSoFar outlets 0 entries
-  lined_none outlets entries none =
-      record { so_far = λ rest lined. subst (λ (l : List Entry). AreLined IsOne goes 0 outlets (l ++ rest)) (sym none) lined }
-
   pub lined_one : (xs : List Outlet) (p : ℕ) (d : Outlet) (entries : List Entry) (entry : Entry) → p < length xs → goes p ≡ true
       → IsAt IsOne (outlet_of (get_or xs p d)) entry
       → LinedSoFar (outlets_of xs) p entries → LinedSoFar (outlets_of xs) (p + 1) (entries ++ entry ∷ [])

@@ -3,7 +3,7 @@ use Rattle.std.proofs.Common.{◌≡◌, ◌≢◌, ℕ, zero, suc, ◌+◌, Boo
 use Rattle.std.proofs.Common.{refl, sym, ap, subst, ◌∙◌, arith, inl, inr, length-append, ⊎_elim}
 use Rattle.std.proofs.lemmas.Bool.{eq-eqb}
 use Rattle.std.proofs.lemmas.Bool.Decides.{eqb_tells}
-use Rattle.std.proofs.lemmas.List.{drop_more, append-nil, map-append}
+use Rattle.std.proofs.lemmas.List.{drop_more, map-append}
 use Rattle.std.proofs.lemmas.Option.{slice_get_within, get_or_from_slice_get}
 use Rattle.std.specs.Prelude.{◌⊎◌, if◌then◌else◌, ◌==◌}
 use Rattle.std.specs.List.{slice_get, AllByRecursion}
@@ -11,10 +11,9 @@ use Rattle.evp_graph.specs.declared.route.Route.{Route}
 use Rattle.evp_graph.proofs.Lists.{Each-append}
 use Rattle.evp_stone.specs.JobShape.{JobShape}
 use Rattle.evp_stone.specs.Route.{last_stone}
-use Rattle.evp_stone.specs.Starting.{IsUnused, AreUnused, Starts, AreStarting, width_of}
+use Rattle.evp_stone.specs.Starting.{IsUnused, Starts}
 use Rattle.evp_stone.specs.State.{Outlet, RouteWork, numbers_of}
 use Rattle.evp_stone.specs.Tallied.{ending_from, routes_at}
-use Rattle.evp_stone.proofs.LineUp.{drop_all}
 
 drop_at : {X : Type 0} (xs : List X) (k : ℕ) (x : X) → slice_get xs k ≡ Some x → drop k xs ≡ x ∷ drop (k + 1) xs
 drop_at xs k x at =
@@ -33,9 +32,6 @@ module _ (job : JobShape) (stone : ℕ) where
   pub record StartingSoFar (number : ℕ) (works : List RouteWork) : Type 0 where
     pub numbers : numbers_of works ++ ending_from stone number (drop number job.routes) ≡ routes_at job stone
     pub start : AllByRecursion (Starts job stone) works
-
-  pub starting_none : (works : List RouteWork) → works ≡ [] → StartingSoFar 0 works
-  starting_none works none = subst (StartingSoFar 0) (sym none) (record { numbers = refl; start = tt })
 
   -- the route of this number ends in the stone
   pub starting_one : (number : ℕ) (works : List RouteWork) (route : Route) (work : RouteWork) → slice_get job.routes number ≡ Some route
@@ -66,23 +62,11 @@ module _ (job : JobShape) (stone : ℕ) where
       ∙ ap (λ (b : Bool). if b then number ∷ more else more) this in
       record { numbers = ap (λ (l : List ℕ). numbers_of works ++ l) (sym found) ∙ was.numbers; start = was.start }
 
-  -- all were looked at
-  pub starting_all : (number : ℕ) (works : List RouteWork) → number ≡ length job.routes → StartingSoFar number works
-      → AreStarting job stone works
-  starting_all number works is was = record {
-    numbers = sym (append-nil (numbers_of works))
-        ∙ ap (λ (l : List Route). numbers_of works ++ ending_from stone number l) (sym (drop_all job.routes number is)) ∙ was.numbers;
-    start = was.start;
-  }
-
 module _ (job : JobShape) (route : Route) where
   -- so far there are the outlets of the positions below this one
   pub record UnusedSoFar (position : ℕ) (outlets : List Outlet) : Type 0 where
     pub count : length outlets ≡ position
     pub each : (k : ℕ) (outlet : Outlet) → slice_get outlets k ≡ Some outlet → IsUnused job route k outlet
-
-  pub unused_none : (outlets : List Outlet) → outlets ≡ [] → UnusedSoFar 0 outlets
-  unused_none outlets none = subst (UnusedSoFar 0) (sym none) (record { count = refl; each = λ k outlet at. absurd (cc) })
 
   pub unused_one : (position : ℕ) (outlets : List Outlet) (outlet : Outlet) → IsUnused job route position outlet
       → UnusedSoFar position outlets → UnusedSoFar (position + 1) (outlets ++ outlet ∷ [])
@@ -92,7 +76,3 @@ module _ (job : JobShape) (route : Route) where
         (λ e. subst (IsUnused job route k) e.1 (subst (λ n. IsUnused job route n outlet) (sym (e.0 ∙ was.count)) unused))
         (snoc_at outlets outlet o k at);
   }
-
-  pub unused_all : (position : ℕ) (outlets : List Outlet) → position ≡ width_of job route → UnusedSoFar position outlets
-      → AreUnused job route outlets
-  unused_all position outlets is was = record { count = was.count ∙ is; each = was.each }

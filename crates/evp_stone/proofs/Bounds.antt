@@ -68,21 +68,30 @@ few_items job is (Some source) k at =
     subst (λ (s : Source). length s.items ≤ 131072) (get_or_from_slice_get job.sources k source source at) few
 
 module _ (job : JobShape) (is : IsJob job) (route : Route) (ends : HasEnds route) where
-  pub few_records : length (all_of (arrivals job route)) ≤ 131072
-  few_records =
+  come : length (all_of (arrivals job route)) ≤ length (take (sum (submits route.source job.rounds)) (records_of job route.source))
+  come =
       let came = take (sum (submits route.source job.rounds)) (records_of job route.source) in
       let whole = append-nil (all_of (submitted_of job route.source)) ∙ all-came job route ends in
       let begin = begins (act_of job) (freezes_of job) (length job.rounds) (each job route ends) (steps_of route)
       (submitted_of job route.source) came [] (length-came job route ends) whole in
       let all = ap (λ (l : List Carried). length l) begin.1 in
       let some = no_more_through (act_of job) came (steps_of route) in
+      omega (arith, length-append (all_of (arrivals job route)) begin.0)
+
+  pub few_records : length (all_of (arrivals job route)) ≤ 131072
+  few_records =
+      let few = come in
       let items = few_items job is (slice_get job.sources route.source) route.source refl in
       let long = length-carried job.formats 0 (items_of (slice_get job.sources route.source)) in
-      omega (
-        arith,
-        length-append (all_of (arrivals job route)) begin.0,
-        length-take (sum (submits route.source job.rounds)) (records_of job route.source),
-      )
+      omega (arith, length-take (sum (submits route.source job.rounds)) (records_of job route.source))
+
+  -- as many as the source submits, and the ends of rounds
+  pub submitted_flow : length (flow_of job route) ≤ sum (submits route.source job.rounds) + length job.rounds
+  submitted_flow =
+      let few = come in
+      let flow = length-flow 0 (arrivals job route) in
+      let rounds = length-arrive job route ends in
+      omega (arith, length-take (sum (submits route.source job.rounds)) (records_of job route.source))
 
   pub short_flow : length (flow_of job route) ≤ 131136
   short_flow =

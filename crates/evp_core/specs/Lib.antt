@@ -1,0 +1,9 @@
+pub mod Lists
+pub mod WorldShape
+pub mod WorldTurned
+pub mod Held
+pub mod Moving
+pub mod Owned
+pub mod Progress
+pub mod Reach
+pub mod Turns

@@ -1,5 +1,6 @@
+pub mod Chains
+pub mod Passed
 mod AmongEnding
-mod Chains
 mod ElementsLeft
 mod Escapes
 mod FieldsLeft
@@ -9,4 +10,3 @@ mod ReportExamples
 mod RoundsLeft
 mod RouteFound
 mod ShownTallies
-pub mod Passed

@@ -10,8 +10,9 @@ mod value;
 mod words;
 
 pub use pieces::Pieces;
-pub use report::write_report;
-pub use value::put_value;
+pub use report::{put_stones, write_report};
+pub use value::{put_quoted, put_value};
+pub use words::{put_counted, put_reason};
 
 #[cfg(test)]
 mod tests;

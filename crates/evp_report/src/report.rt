@@ -131,8 +131,12 @@ fn put_source<K: Sink>(
     }
 }
 
-// The stones, each behind a `>`.
-fn put_stones<K: Sink>(pieces: &mut Pieces, sink: &mut K, stones: &[u16]) -> Result<(), PutFault>
+/// Hands on the numbers of stones, each behind a `>`. It takes no memory.
+pub fn put_stones<K: Sink>(
+    pieces: &mut Pieces,
+    sink: &mut K,
+    stones: &[u16],
+) -> Result<(), PutFault>
     ensures { Passes K.faults K.put sink.old sink.new pieces.old pieces.new
         (stones_text stones.now) result }
 {

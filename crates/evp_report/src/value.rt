@@ -211,8 +211,8 @@ fn put_text<K: Sink>(pieces: &mut Pieces, sink: &mut K, text: Option<&[u8]>) -> 
     }
 }
 
-// A text in double quotes.
-fn put_quoted<K: Sink>(pieces: &mut Pieces, sink: &mut K, bytes: &[u8]) -> Result<(), PutFault>
+/// Hands on a text in double quotes. It takes no memory.
+pub fn put_quoted<K: Sink>(pieces: &mut Pieces, sink: &mut K, bytes: &[u8]) -> Result<(), PutFault>
     ensures { Passes K.faults K.put sink.old sink.new pieces.old pieces.new (quoted bytes.now)
         result }
 {

@@ -11,8 +11,8 @@ use evp_base::{FieldPath, Step};
 use evp_depot::{PutFault, Sink};
 use itoa::{Buffer, Integer};
 
-/// Words and a number behind them.
-pub(crate) fn put_counted<K: Sink, I: Integer>(
+/// Hands on words and a number behind them. It takes no memory.
+pub fn put_counted<K: Sink, I: Integer>(
     pieces: &mut Pieces,
     sink: &mut K,
     words: &[u8],
@@ -26,8 +26,8 @@ pub(crate) fn put_counted<K: Sink, I: Integer>(
     pieces.put(sink, buffer.format(number).as_bytes())
 }
 
-/// Why a record was refused.
-pub(crate) fn put_reason<K: Sink>(
+/// Hands on why a record was refused. It takes no memory.
+pub fn put_reason<K: Sink>(
     pieces: &mut Pieces,
     sink: &mut K,
     reason: &Reason,

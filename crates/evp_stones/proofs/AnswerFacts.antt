@@ -8,8 +8,8 @@ use Rattle.evp_stones.specs.FirstFile.{FirstFile, IsFirstFile}
 use Rattle.evp_stones.specs.Report.{report}
 use Rattle.evp_stones.specs.Carried.{NamesJob, IsReport, IsAbsentName, IsHeldName}
 use Rattle.evp_stones.specs.Lines.{IfAbsent, IfFailed, IsOfName}
-use Rattle.evp_stones.specs.declared.refusal.Refusal.{Refusal}
-use Rattle.evp_stones.specs.declared.refusal.Refusal.TheVariants.{Words, Absent, Read, NotBuilt, Memory}
+use Rattle.evp_stones.specs.declared.first_form.refusal.Refusal.{Refusal}
+use Rattle.evp_stones.specs.declared.first_form.refusal.Refusal.TheVariants.{Words, Absent, Read, NotBuilt, Memory}
 
 -- a value that is there has what is true of it
 some_and : {A : Type 0} (P : A → Type 0) (o : Option A) (x : A) → o ≡ Some x → P x → IsSomeAnd o P

@@ -9,8 +9,8 @@ use Rattle.evp_stones.specs.Carried.{IsReport, IsAbsentName, IsHeldName}
 use Rattle.evp_base.specs.Quoted.{quoted}
 use Rattle.evp_stones.specs.Lines.{status_of, refusal_text, refusal_line, IfAbsent, IfFailed}
 use Rattle.evp_stones.specs.Outcome.{IsStatus, Wrote}
-use Rattle.evp_stones.specs.declared.refusal.Refusal.{Refusal}
-use Rattle.evp_stones.specs.declared.refusal.Refusal.TheVariants.{Words, Absent, Read, NotBuilt, Memory}
+use Rattle.evp_stones.specs.declared.first_form.refusal.Refusal.{Refusal}
+use Rattle.evp_stones.specs.declared.first_form.refusal.Refusal.TheVariants.{Words, Absent, Read, NotBuilt, Memory}
 
 pub status_listed : (refusal : Refusal) → IsStatus (status_of refusal)
 status_listed Words = (1, lit< tt, refl)

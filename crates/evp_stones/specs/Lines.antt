@@ -1,9 +1,9 @@
 -- The line that a refusal writes, and its status.
 use Rattle.std.specs.Prelude.{◌≡◌, ℕ, List, ◌++◌, codes, string_bytes, ⊤}
 use Rattle.evp_base.specs.Quoted.{quoted}
-use Rattle.evp_stones.specs.declared.refusal.Refusal.{Refusal}
-use Rattle.evp_stones.specs.declared.refusal.Refusal.TheVariants.{Words, Absent, Read, NotBuilt}
-use Rattle.evp_stones.specs.declared.refusal.Refusal.TheVariants.{Memory}
+use Rattle.evp_stones.specs.declared.first_form.refusal.Refusal.{Refusal}
+use Rattle.evp_stones.specs.declared.first_form.refusal.Refusal.TheVariants.{Words, Absent, Read, NotBuilt}
+use Rattle.evp_stones.specs.declared.first_form.refusal.Refusal.TheVariants.{Memory}
 
 abbrev pub refusal_text : Refusal → List ℕ
 refusal_text Words = codes "words"

@@ -1,10 +1,16 @@
 //! The forms of a job and of a record file that can be carried so far.
 
+mod answer;
+mod escape;
 mod file;
 mod frames;
 mod job;
+mod refusal;
 mod report;
+mod run;
 
-pub use file::{FirstFile, read_file};
-pub use job::{FirstJob, read_job};
-pub use report::{is_carried, report};
+use file::{FirstFile, read_file};
+use job::{FirstJob, read_job};
+use refusal::Refusal;
+use report::{is_carried, report};
+pub use run::run_first;

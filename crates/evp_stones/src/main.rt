@@ -1,14 +1,21 @@
 //! The program: what its words ask for is done over files and standard output.
 #![tactic(auto)]
 
-mod answer;
-mod escape;
+mod alone;
+mod check;
+mod convert;
+mod fetching;
+mod file_name;
 mod first_form;
 mod gate;
+mod job;
+mod output;
 mod refusal;
+mod show;
 mod top;
 mod words;
 
+pub use alone::alone;
 use evp_depot::{FileDepot, StdSink};
 pub use gate::{Gate, OpenGate};
 use std::process::ExitCode;

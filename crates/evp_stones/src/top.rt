@@ -1,16 +1,14 @@
 //! The top call.
-ghost use Rattle.std.specs.Prelude.{◌≡◌, ℕ, ◌↔◌, ◌++◌, List, map, codes, string_bytes, IfSome};
-ghost use Rattle.std.specs.Io.KnownBytes.{Appends};
-ghost use Rattle.evp_base.specs.Quoted.{quoted};
-ghost use Rattle.evp_depot.specs.Counts.{Rose};
-ghost use Rattle.evp_depot.specs.Put.{AppendsPart};
-ghost use Rattle.evp_stones.specs.Words.{IsLine};
-ghost use Rattle.evp_stones.specs.Carried.{IsReport, IsAbsentName, IsHeldName};
-ghost use Rattle.evp_stones.specs.Outcome.{IsStatus, Wrote};
+ghost use Rattle.std.specs.Prelude.{◌≡◌, ◌↔◌, map, string_bytes};
+ghost use Rattle.evp_stones.specs.Answer.{Answers};
+ghost use Rattle.evp_stones.specs.FirstRun.{Runs};
+ghost use Rattle.evp_stones.specs.Words.{IsLine, IsRunLine, line_of};
 
-use crate::answer::answer;
+use crate::alone::alone;
+use crate::first_form::run_first;
 use crate::gate::Gate;
-use evp_depot::{Depot, Sink, write_all};
+use crate::words::job_name;
+use evp_depot::{Depot, Sink};
 use std::alloc::Global;
 use std::sync::Wait;
 use std::thread::Threads;
@@ -24,55 +22,19 @@ pub fn stones<R: Threads + Wait + Sync, D: Depot, K: Sink, G: Gate + Sync>(
     sink: &mut K,
     gate: &G,
 ) -> u8
-    ensures statuses { IsStatus result }
-
-    // The answer was written, or a part of it where the sink failed.
-    ensures done { result ≡ 0 → IfSome (D.held depot.old) (λ files. (text : List ℕ)
-        × IsReport files (map string_bytes words.now) text
-        × Appends (K.put sink.old) (K.put sink.new) text) }
-    ensures write_failed { result ≡ 8 → Rose (K.faults sink.old) (K.faults sink.new) }
-    ensures front { result ≡ 8 → IfSome (D.held depot.old) (λ files. (text : List ℕ)
-        × IsReport files (map string_bytes words.now) text
-        × AppendsPart (K.put sink.old) (K.put sink.new) text) }
-
     // The words are no line.
     ensures words { (result ≡ 1) ↔ ¬ IsLine (map string_bytes words.now) }
-    ensures words_line { result ≡ 1
-        → Wrote (K.faults sink.old) (K.faults sink.new) (K.put sink.old) (K.put sink.new)
-        (codes "words") }
-
-    // A name isn't there.
-    ensures absent { result ≡ 2 → Rose (D.misses depot.old) (D.misses depot.new) }
-    ensures absent_line { result ≡ 2 → (name : List ℕ)
-        × IfSome (D.held depot.old) (λ files. IsAbsentName files (map string_bytes words.now) name)
-        × Wrote (K.faults sink.old) (K.faults sink.new) (K.put sink.old) (K.put sink.new)
-        (codes "absent " ++ quoted name) }
-
-    // A read failed.
-    ensures read_failed { result ≡ 3 → Rose (D.faults depot.old) (D.faults depot.new) }
-    ensures read_line { result ≡ 3 → (name : List ℕ)
-        × IfSome (D.held depot.old) (λ files. IsHeldName files (map string_bytes words.now) name)
-        × Wrote (K.faults sink.old) (K.faults sink.new) (K.put sink.old) (K.put sink.new)
-        (codes "read " ++ quoted name) }
-
-    // The job isn't built, or memory was wanted.
-    ensures job_line { result ≡ 6
-        → Wrote (K.faults sink.old) (K.faults sink.new) (K.put sink.old) (K.put sink.new)
-        (codes "job not built") }
-    ensures memory_line { result ≡ 9
-        → Wrote (K.faults sink.old) (K.faults sink.new) (K.put sink.old) (K.put sink.new)
-        (codes "memory") }
+    ensures run { IsRunLine (map string_bytes words.now)
+        → Runs D.held D.misses D.faults K.faults K.put (map string_bytes words.now)
+        depot.old depot.new sink.old sink.new result }
+    ensures alone { ¬ IsRunLine (map string_bytes words.now)
+        → Answers D.held D.misses D.faults K.faults K.put (line_of (map string_bytes words.now))
+        depot.old depot.new sink.old sink.new result }
 {
     let _ = rt;
     let _ = gate;
-    match answer(alloc, words, depot) {
-        Ok(text) => match write_all(sink, text.as_bytes()) {
-            Ok(()) => 0,
-            Err(_) => 8,
-        },
-        Err(refusal) => {
-            let _ = refusal.put_line(sink);
-            refusal.status()
-        }
+    if job_name(words).is_some() {
+        return run_first(alloc, words, depot, sink);
     }
+    alone(alloc, words, depot, sink)
 }

@@ -1,9 +1,8 @@
-use Rattle.evp_base.specs.Quoted.{quoted}
-use Rattle.evp_depot.specs.Put.{Puts-after}
+use Rattle.evp_report.proofs.Chains.{then, cut, longer}
 use Rattle.evp_stones.proofs.refusal.put_named.Goals as goal
 
+pub returns-in_err-put : goal.returns-in_err-put
+returns-in_err-put g c = cut _ c.in_err-put.ensures c.from_residual.ensures.0
+
 pub returns : goal.returns
-returns g c =
-    let put_name = rw c.as_bytes.ensures.value at c.put_quoted.ensures in
-    Puts-after g.K.Sink.faults g.K.Sink.put c.args.sink.now c.write_all.new.sink c.put_quoted.new.sink
-    c.args.what.now (quoted c.args.name.now) c.put_quoted.result c.in_ok-write_all.ensures.faults c.in_ok-write_all.ensures.all put_name
+returns g c = then c.in_ok-put.ensures (rw c.as_bytes.ensures at c.put_quoted.ensures)

@@ -1,7 +1,10 @@
 -- What a closed stone's actor hands in is the stone's account.
-use Rattle.std.proofs.Common.{◌≡◌, ◌⊎◌, ℕ, zero, suc, ◌+◌, ◌<◌, List, [], ◌∷◌, ◌++◌, length, drop, get_or, Some, refl, sym, ap, subst, ◌∙◌, arith, ⊎_elim, inl, inr, length-append, length-drop}
-use Rattle.std.proofs.lemmas.Option.{slice_get-get_or}
-use Rattle.std.specs.List.{slice_get, remove}
+use Rattle.std.proofs.Common.{◌≡◌, ℕ, zero, suc, ◌+◌, List, [], ◌∷◌, ◌++◌, length, drop, Some, refl, sym, ap, subst, ◌∙◌, arith, ⊎_elim}
+use Rattle.std.proofs.Common.{length-append, Option, None}
+use Rattle.std.specs.List.{slice_get}
+use Rattle.std.specs.Option.{option_to_list}
+use Rattle.std.specs.Vec.Iter.{into_iter_items, into_iter_len, into_iter_steps}
+use Rattle.std.specs.declared.vec.IntoIter.{IntoIter}
 use Rattle.evp_cache.specs.Known.{Cells}
 use Rattle.evp_stone.specs.declared.account.Account.{Account}
 use Rattle.evp_stone.specs.Actor.{Role, feeds, works, ActorShape, HasActed}
@@ -14,6 +17,7 @@ use Rattle.evp_stone.specs.Tallied.{IsAccount}
 use Rattle.evp_core.specs.Held.{IsHeld}
 use Rattle.evp_core.specs.Moving.{IsClosed, AreClosed}
 use Rattle.evp_core.specs.WorldShape.{WorldShape}
+use Rattle.evp_core.proofs.Elements.{snoc_at}
 
 -- the actor behind the sources is a stone's
 pub are_stones : (job : JobShape) (stone : ℕ) (role : Role) → IsNumbered job (length job.sources + stone) role → IsStones role
@@ -47,14 +51,6 @@ pub record AreSoFar (job : JobShape) (count : ℕ) (accounts : List Account) : T
   pub each : (stone : ℕ) (account : Account) → slice_get accounts stone ≡ Some account
       → (account.stone ≡ stone) × IsAccount job account
 
-snoc_at : (xs : List Account) (x : Account) (k : ℕ) (y : Account) → slice_get (xs ++ x ∷ []) k ≡ Some y
-    → (slice_get xs k ≡ Some y) ⊎ ((k ≡ length xs) × (x ≡ y))
-snoc_at [] x zero y at = inr (refl, cc)
-snoc_at [] x (suc k) y at = absurd (cc)
-snoc_at (z ∷ xs) x zero y at = inl at
-snoc_at (z ∷ xs) x (suc k) y at =
-    ⊎_elim (λ there. inl there) (λ here. inr (ap suc here.0, here.1)) (snoc_at xs x k y at)
-
 -- one account more
 pub account_more : (job : JobShape) (count : ℕ) (accounts : List Account) (account : Account) → AreSoFar job count accounts
     → (account.stone ≡ count) × IsAccount job account → AreSoFar job (count + 1) (accounts ++ account ∷ [])
@@ -66,17 +62,12 @@ account_more job count accounts account far right = record {
       (snoc_at accounts account stone other at);
 }
 
-at_behind : {X : Type 0} (xs : List X) (k : ℕ) (x : X) → get_or (drop k xs) 0 x ≡ x → 0 < length (drop k xs) → slice_get xs k ≡ Some x
-at_behind [] zero x here some = absurd (omega arith)
-at_behind [] (suc k) x here some = absurd (omega arith)
-at_behind (y ∷ xs) zero x here some = ap Some here
-at_behind (y ∷ xs) (suc k) x here some = at_behind xs k x here some
-
 -- the first element behind so many is the one at that place
-pub first_behind : {X : Type 0} (xs rest : List X) (k : ℕ) (x : X) → rest ≡ drop k xs → 0 < length rest → x ≡ get_or rest 0 x
-    → slice_get xs k ≡ Some x
-first_behind xs rest k x is some first =
-    at_behind xs k x (ap (λ (l : List _). get_or l 0 x) (sym is) ∙ sym first) (let e = ap length is in omega arith)
+pub at_behind : {X : Type 0} (xs others : List X) (k : ℕ) (x : X) → drop k xs ≡ x ∷ others → slice_get xs k ≡ Some x
+at_behind [] others zero x is = absurd (cc)
+at_behind [] others (suc k) x is = absurd (cc)
+at_behind (y ∷ xs) others zero x is = let same : y ≡ x = cc in ap Some same
+at_behind (y ∷ xs) others (suc k) x is = at_behind xs others k x is
 
 -- behind one more
 drop_one : {X : Type 0} (xs : List X) (k : ℕ) → drop 1 (drop k xs) ≡ drop (k + 1) xs
@@ -85,12 +76,24 @@ drop_one [] (suc k) = ap (λ (n : ℕ). drop n []) (let e : suc (k + 1) ≡ suc 
 drop_one (x ∷ xs) zero = refl
 drop_one (x ∷ xs) (suc k) = drop_one xs k ∙ ap (λ (n : ℕ). drop n (x ∷ xs)) (let e : suc (k + 1) ≡ suc k + 1 = omega arith in e)
 
-without_first : {X : Type 0} (xs : List X) → remove xs 0 ≡ drop 1 xs
-without_first [] = refl
-without_first (x ∷ xs) = refl
+none_left : {X : Type 0} (xs : List X) → length xs ≡ 0 → xs ≡ []
+none_left [] none = refl
+none_left (x ∷ xs) none = absurd (omega arith)
 
-pub removed : {X : Type 0} (xs rest new : List X) (k : ℕ) → rest ≡ drop k xs → new ≡ remove rest 0 → new ≡ drop (k + 1) xs
-removed xs rest new k is without = without ∙ without_first rest ∙ ap (λ (l : List _). drop 1 l) is ∙ drop_one xs k
+-- one more was taken out of what was left behind so many, if there was one
+pub one_out : {X Z : Type 0} (xs : List X) (k : ℕ) (old new : IntoIter X Z) (out : Option X) → into_iter_steps old out new
+    → into_iter_items old ≡ drop k xs → into_iter_len old ≡ length (into_iter_items old)
+    → into_iter_items old ≡ option_to_list out ++ into_iter_items new
+    → (into_iter_items new ≡ drop (k + 1) xs) × (into_iter_len new ≡ length (into_iter_items new))
+one_out xs k old new (Some x) steps left long is = (
+  ap (λ (l : List _). drop 1 l) (sym steps.0 ∙ left) ∙ drop_one xs k,
+  let one = ap (λ (l : List _). length l) steps.0 in let fewer = steps.1 in omega arith,
+)
+one_out xs k old new None steps left long is =
+    let none = none_left (into_iter_items old) (sym long ∙ steps.0) in (
+      sym is ∙ none ∙ ap (λ (l : List _). drop 1 l) (sym none ∙ left) ∙ drop_one xs k,
+      steps.1 ∙ ap (λ (l : List _). length l) (sym none ∙ is),
+    )
 
 pub none_so_far : (job : JobShape) (accounts : List Account) → accounts ≡ [] → AreSoFar job 0 accounts
 none_so_far job accounts none = record {

@@ -29,9 +29,6 @@ sum_below f (x ∷ xs) (y ∷ ys) same each =
     let rest = sum_below f xs ys (omega arith) (λ k a b at there. each (suc k) a b at there) in
     omega (arith, sum_by-cons (λ (n : ℕ). n) x xs, sum_by-cons f y ys)
 
-number_same : (a b : ℕ) → Some a ≡ Some b → a ≡ b
-number_same a b same = cc
-
 module _ (lists : ListsShape) (has : HasLists lists) (is : IsJob lists.job) where
   abbrev job : JobShape
   job = lists.job

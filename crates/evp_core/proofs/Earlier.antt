@@ -3,6 +3,7 @@ use Rattle.std.proofs.Common.{◌≡◌, ℕ, zero, suc, ◌+◌, ◌<◌, List,
 use Rattle.std.proofs.Common.{refl, sym, ap, subst, ◌∙◌, arith, ⊎_elim, eq-eqb}
 use Rattle.std.proofs.lemmas.Bool.Decides.{eqb_tells}
 use Rattle.std.proofs.lemmas.List.{length-map}
+use Rattle.std.proofs.lemmas.Option.{same_Some}
 use Rattle.std.specs.Prelude.{if◌then◌else◌, Bool}
 use Rattle.std.specs.List.{slice_get}
 use Rattle.evp_graph.specs.declared.route.Route.{Route}
@@ -25,9 +26,6 @@ use Rattle.evp_core.proofs.Frame.{last_at}
 use Rattle.evp_core.proofs.ListsKeep.{below_there, taken_there, given_there}
 use Rattle.evp_core.proofs.Stages.{HasMore, ended_or, ended_at}
 use Rattle.evp_core.proofs.Whole.{all_came, more_comes}
-
-number_same : (a b : ℕ) → Some a ≡ Some b → a ≡ b
-number_same a b same = cc
 
 -- the number stands in the list
 abbrev pub Stands : List ℕ → ℕ → Type 0
@@ -113,7 +111,7 @@ module _ (lists : ListsShape) (has : HasLists lists) (is_job : IsJob lists.job) 
   handled_is : (here : RouteWork) (was : Was here) (count : ℕ) → taken_on lists (Some work.stone) here.route ≡ Some count
       → was.handled ≡ count
   handled_is here was count takes =
-      let both : was.handled + 0 ≡ count = number_same (was.handled + 0) count
+      let both : was.handled + 0 ≡ count = same_Some (was.handled + 0) count
       (ap (λ (h : Option Entry). Some (was.handled + in_hand here.route h)) (sym hand) ∙ sym was.count ∙ takes) in omega arith
 
   -- where all rounds have ended nothing is left in its list

@@ -3,7 +3,7 @@ use Rattle.std.proofs.Common.{◌≡◌, ℕ, ◌+◌, ◌<◌, List, [], ◌∷
 use Rattle.std.proofs.Common.{length-append}
 use Rattle.std.proofs.lemmas.List.{length-map}
 use Rattle.std.proofs.lemmas.List.Elements.{All-contains}
-use Rattle.std.proofs.lemmas.Option.{slice_get-get_or}
+use Rattle.std.proofs.lemmas.Option.{slice_get-get_or, same_Some}
 use Rattle.std.specs.List.{slice_get, Contains}
 use Rattle.evp_graph.specs.declared.route.Route.{Route}
 use Rattle.evp_graph.specs.Routes.{IsRoute, Visits, Steps}
@@ -55,25 +55,19 @@ steps_once targets a [] (b ∷ stones) others s t = absurd s
 steps_once targets a (p ∷ positions) [] others s t = absurd s
 steps_once targets a (p ∷ positions) (b ∷ stones) [] s t = absurd t
 steps_once targets a (p ∷ positions) (b ∷ stones) (c ∷ others) s t =
-    let same : b ≡ c = number_same b c (sym s.0 ∙ t.0) in
+    let same : b ≡ c = same_Some b c (sym s.0 ∙ t.0) in
     let rest = steps_once targets c positions stones others (subst (λ (n : ℕ). Steps targets n positions stones) same s.1) t.1 in
     ap (λ (n : ℕ). n ∷ stones) same ∙ ap (λ (l : List ℕ). c ∷ l) rest
-  where
-    number_same : (a b : ℕ) → Some a ≡ Some b → a ≡ b
-    number_same a b same = cc
 
 visits_once : (graph : Shape) (source : ℕ) (positions stones others : List ℕ) → Visits graph source positions stones
     → Visits graph source positions others → stones ≡ others
 visits_once graph source positions [] others v w = absurd v
 visits_once graph source positions (a ∷ stones) [] v w = absurd w
 visits_once graph source positions (a ∷ stones) (b ∷ others) v w =
-    let same : a ≡ b = number_same a b (sym v.0 ∙ w.0) in
+    let same : a ≡ b = same_Some a b (sym v.0 ∙ w.0) in
     let rest = steps_once graph.targets b positions stones others
     (subst (λ (n : ℕ). Steps graph.targets n positions stones) same v.1) w.1 in
     ap (λ (n : ℕ). n ∷ stones) same ∙ ap (λ (l : List ℕ). b ∷ l) rest
-  where
-    number_same : (a b : ℕ) → Some a ≡ Some b → a ≡ b
-    number_same a b same = cc
 
 -- a source and positions are of one route
 pub route_once : (graph : Shape) (one two : Route) → IsRoute graph one → IsRoute graph two → one.source ≡ two.source

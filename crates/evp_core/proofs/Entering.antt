@@ -1,7 +1,7 @@
 -- Lists of entries, as the code has them: one list changes.
 use Rattle.std.proofs.Common.{◌≡◌, ℕ, zero, suc, ◌<◌, ◌≤◌, List, [], ◌∷◌, ◌++◌, length, Option, Some, None, set, get_or}
 use Rattle.std.proofs.Common.{refl, sym, ap, subst, ◌∙◌, arith, rules}
-use Rattle.std.proofs.lemmas.Option.{slice_get-map, slice_get-get_or}
+use Rattle.std.proofs.lemmas.Option.{slice_get-map, slice_get-get_or, same_Some}
 use Rattle.std.proofs.Math.Seq.{map-set_same}
 use Rattle.std.proofs.lemmas.List.{map-set}
 use Rattle.std.specs.Prelude.{IfSome, IfNone, IsSome, option_to_list}
@@ -107,8 +107,5 @@ pub count_at : (lists : List Deque) (place : ℕ) (old : Deque) (count : ℕ) �
     → count ≡ deque_len old → (entries : List Entry) → slice_get (entries_in lists) place ≡ Some entries → count ≡ length entries
 count_at lists place old count is within same entries at =
     let here = slice_get-get_or lists place old within ∙ ap Some (sym is) in
-    let items : old.items ≡ entries = list_same old.items entries (sym (entries_at lists place old here) ∙ at) in
+    let items : old.items ≡ entries = same_Some old.items entries (sym (entries_at lists place old here) ∙ at) in
     same ∙ deque_long old ∙ ap (λ (l : List Entry). length l) items
-  where
-    list_same : (a b : List Entry) → Some a ≡ Some b → a ≡ b
-    list_same a b same = cc

@@ -3,18 +3,23 @@ use Rattle.std.proofs.Common.{mul-le-mul_left, ◌≡◌, ℕ, ◌+◌, ◌*◌,
 use Rattle.evp_core.specs.Held.{IsHeld, IsOfSame}
 use Rattle.evp_core.specs.Progress.{turns_left}
 use Rattle.evp_core.specs.Turns.{entries_in, turns}
+use Rattle.evp_core.specs.Rotation.{all_numbers}
 use Rattle.evp_core.specs.WorldShape.{WorldShape}
+use Rattle.evp_core.specs.WorldTurned.{HaveTurned}
+use Rattle.evp_core.proofs.Rounds.{HavePassed, none_passed, one_pass}
 
 -- passes were made, each of which moved
 pub record InPasses (start now : WorldShape) : Type 0 where
   pub held : IsHeld now
   pub same : IsOfSame start now
+  pub passed : HavePassed start now
   pub done : now.done + length start.actors * turns_left now ≤ start.done + length start.actors * turns_left start
 
 pub passes_start : (world : WorldShape) → IsHeld world → InPasses world world
 passes_start world held = record {
   held = held;
   same = record { job = refl; count = refl; left = omega arith };
+  passed = none_passed world;
   done = omega arith;
 }
 
@@ -31,10 +36,11 @@ one_less n d e l m s more less done = let k = mul-le-mul_left {m = m + 1} {n = l
 
 -- one more pass moved
 pub passes_on : (start old new : WorldShape) → InPasses start old → IsOfSame old new → IsHeld new → turns_left new < turns_left old
-    → new.done ≤ old.done + length old.actors → InPasses start new
-passes_on start old new passes same held less done = record {
+    → new.done ≤ old.done + length old.actors → HaveTurned old new (all_numbers old) → InPasses start new
+passes_on start old new passes same held less done turned = record {
   held = held;
   same = same_then start old new passes.same same;
+  passed = one_pass start old new passes.passed passes.same.count turned;
   done = let count = passes.same.count in
       one_less (length start.actors) old.done new.done (turns_left old) (turns_left new) _ (omega arith) less passes.done;
 }

@@ -1,5 +1,6 @@
 -- An actor's state rests on the counts of its own routes alone, and no two actors give on one route.
 use Rattle.std.proofs.Common.{◌≡◌, ℕ, ◌+◌, List, [], ◌∷◌, ◌++◌, length, Some, sym, ap, ◌∙◌, arith}
+use Rattle.std.proofs.lemmas.Option.{same_Some}
 use Rattle.std.specs.List.{slice_get}
 use Rattle.evp_cache.specs.Known.{Cells}
 use Rattle.evp_graph.specs.declared.route.Route.{Route}
@@ -16,9 +17,6 @@ use Rattle.evp_stone.specs.Tallied.{routes_at}
 use Rattle.evp_stone.proofs.Apart.{goes_on_once, end_at, number_at}
 use Rattle.evp_stone.proofs.TakeStep.{AreSame}
 
-pub some_route : (r s : Route) → Some r ≡ Some s → r ≡ s
-some_route r s same = cc
-
 -- no count of a route on which the actor gives moved
 abbrev pub StayFor : JobShape → Role → Counting → Counting → Type 0
 StayFor job role given later =
@@ -31,7 +29,7 @@ pub last_at : (job : JobShape) (stone : ℕ) (list : List RouteWork) (place : �
 last_at job stone list place here route are at there =
     let e = end_at stone 0 job.routes place here.route (number_at list (routes_at job stone) place here are at) in
     let is : e.place ≡ here.route = let i = e.is in omega arith in
-    ap last_stone (some_route route e.route (sym there ∙ ap (slice_get job.routes) (sym is) ∙ e.there)) ∙ e.last
+    ap last_stone (same_Some route e.route (sym there ∙ ap (slice_get job.routes) (sym is) ∙ e.there)) ∙ e.last
 
 sent_as : (job : JobShape) (given later : Counting) (waiting : List Entry) (route : Route) (round : ℕ) (done : List Carried)
     (position : ℕ) (outlet : Outlet) → later outlet.route ≡ given outlet.route → HasSent job given waiting route round done position outlet

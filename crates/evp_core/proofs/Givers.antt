@@ -1,6 +1,7 @@
 -- The actor that gives on a route isn't closed while more is to come on it.
 use Rattle.std.proofs.Common.{◌≡◌, ℕ, ◌<◌, List, [], ◌++◌, ◌∷◌, length, drop, Some}
 use Rattle.std.proofs.Common.{sym, ap, subst, ◌∙◌, arith, length-drop}
+use Rattle.std.proofs.lemmas.Option.{same_Some}
 use Rattle.std.specs.List.{slice_get}
 use Rattle.evp_graph.specs.declared.route.Route.{Route}
 use Rattle.evp_graph.specs.Shape.{targets_of}
@@ -20,13 +21,9 @@ use Rattle.evp_stone.proofs.Apart.{same_place}
 use Rattle.evp_stone.proofs.JobFacts.{ends_at, routes_apart}
 use Rattle.evp_core.proofs.Earlier.{IsWork, works_on, none_between}
 use Rattle.evp_core.proofs.Edges.{goes_edge, Shorter, route_at, route_once}
-use Rattle.evp_core.proofs.Frame.{some_route}
 use Rattle.evp_core.proofs.ListsKeep.{there_below, below_there}
 use Rattle.evp_core.proofs.Stages.{ended_at}
 use Rattle.evp_core.proofs.Whole.{all_came}
-
-number_same : (a b : ℕ) → Some a ≡ Some b → a ≡ b
-number_same a b same = cc
 
 -- of the route so many were given, and more is to come
 pub record IsShort (job : JobShape) (given : Counting) (number : ℕ) (route : Route) : Type 0 where
@@ -44,7 +41,7 @@ module _ (job : JobShape) (is : IsJob job) (given : Counting) (number : ℕ) (ro
       (route_at job is work.route fed.route fed.there) (source ∙ sym fed.source) (none ∙ sym fed.first) in
       let place : number ≡ work.route = same_place job.routes number work.route route (routes_apart job is) short.there
       (fed.there ∙ ap Some (sym same)) in
-      let count : work.given ≡ short.count = number_same work.given short.count (sym fed.count ∙ ap given (sym place) ∙ short.gives) in
+      let count : work.given ≡ short.count = same_Some work.given short.count (sym fed.count ∙ ap given (sym place) ∙ short.gives) in
       let rest : length (drop work.given (flow_of job fed.route)) ≡ 0 = ap (λ (l : List Part). length l) (fed.rest ∙ come) in
       let long : length (flow_of job route) ≡ length (flow_of job fed.route) = ap (λ (r : Route). length (flow_of job r)) same in
       let below = short.below in
@@ -59,7 +56,7 @@ module _ (job : JobShape) (is : IsJob job) (given : Counting) (number : ℕ) (ro
     was = state.each on.place on.work on.at
 
     same_shorter : was.route ≡ shorter.route
-    same_shorter = some_route was.route shorter.route (sym was.there ∙ ap (slice_get job.routes) on.is ∙ shorter.there)
+    same_shorter = same_Some was.route shorter.route (sym was.there ∙ ap (slice_get job.routes) on.is ∙ shorter.there)
 
     edge : slice_get (targets_of (graph_of job).targets (last_stone was.route)) shorter.position ≡ Some (last_stone route)
     edge = ap (λ (r : Route). slice_get (targets_of (graph_of job).targets (last_stone r)) shorter.position) same_shorter
@@ -87,7 +84,7 @@ module _ (job : JobShape) (is : IsJob job) (given : Counting) (number : ℕ) (ro
     pub stone_unended : ⊥
     stone_unended =
         let count : sent.so_far ≡ short.count =
-        number_same sent.so_far short.count (sym sent.count ∙ ap given same_number ∙ short.gives) in
+        same_Some sent.so_far short.count (sym sent.count ∙ ap given same_number ∙ short.gives) in
         let none : sent.so_far ≡ outlet.0.lined = none_between job is outlet.0.route sent.so_far outlet.0.lined
         (subst (λ (l : List Entry). Carries route_of position_of flow stands_for job outlet.0.route sent.so_far outlet.0.lined l)
         waiting sent.waits) in

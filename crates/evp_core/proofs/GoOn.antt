@@ -3,6 +3,7 @@ use Rattle.std.proofs.Common.{◌≡◌, ◌⊎◌, ℕ, zero, suc, ◌+◌, ◌
 use Rattle.std.proofs.Common.{refl, sym, ap, subst, ◌∙◌, arith, inl, inr, ⊎_elim}
 use Rattle.std.proofs.lemmas.Bool.Decides.{eqb_tells}
 use Rattle.std.proofs.lemmas.List.{length-map}
+use Rattle.std.proofs.lemmas.Option.{same_Some}
 use Rattle.std.specs.List.{slice_get}
 use Rattle.evp_graph.specs.declared.route.Route.{Route}
 use Rattle.evp_graph.specs.Routes.{Visits, Steps}
@@ -19,6 +20,7 @@ use Rattle.evp_stone.specs.Opening.{IsNumbered}
 use Rattle.evp_stone.specs.Port.{LeadsTo}
 use Rattle.evp_stone.specs.Route.{last_stone}
 use Rattle.evp_stone.specs.State.{StoneWork}
+use Rattle.evp_core.specs.Answers.{StandsIdle}
 use Rattle.evp_core.specs.Lists.{ListsShape, IsFull, taken_on, given_on}
 use Rattle.evp_core.specs.Moving.{IsClosed, AreClosed, CanGoOn}
 use Rattle.evp_core.specs.WorldShape.{WorldShape, HasRules, own_of}
@@ -28,7 +30,7 @@ use Rattle.evp_core.proofs.Given.{waits_on}
 use Rattle.evp_core.proofs.Givers.{IsShort, source_unended, stone_unended}
 use Rattle.evp_core.proofs.ListsKeep.{there_below, below_there, leads_once}
 use Rattle.evp_core.proofs.MovesOn.{moves_on}
-use Rattle.evp_core.proofs.Stages.{Stands, StandsIdle, StandsBlocked, CanMove, stands}
+use Rattle.evp_core.proofs.Stages.{Stands, StandsBlocked, CanMove, stands}
 
 empty_or : (xs : List ℕ) → (xs ≡ []) ⊎ (0 < length xs)
 empty_or [] = inl refl
@@ -263,12 +265,9 @@ module _ (world : WorldShape) (rules : HasRules world) (is : IsJob world.lists.j
       → Stands world rules is actor.role → ClosedBelow (suc bound) ⊎ Mover
   one_more bound actor there closed (inl here) =
       inl (λ number other below at. ⊎_elim
-      (λ e. subst (λ (o : ActorShape). IsClosed job o.role) (actor_same actor other (sym there ∙ ap (slice_get world.actors) (sym e.1) ∙ at)) here)
+      (λ e. subst (λ (o : ActorShape). IsClosed job o.role) (same_Some actor other (sym there ∙ ap (slice_get world.actors) (sym e.1) ∙ at)) here)
       (λ e. let apart = e.1 in closed number other (omega arith) at)
       (eqb_tells number bound))
-    where
-      actor_same : (a b : ActorShape) → Some a ≡ Some b → a ≡ b
-      actor_same a b same = cc
   one_more bound actor there closed (inr (inl idle)) =
       inr (idle_moves bound actor there actor.role refl (rules.numbered bound actor there) idle)
   one_more bound actor there closed (inr (inr (inl blocked))) = inr (full_moves blocked.0 blocked.2)

@@ -3,6 +3,7 @@ use Rattle.std.proofs.Common.{◌≡◌, ◌≢◌, ℕ, ◌+◌, List, length, 
 use Rattle.std.proofs.Common.{refl, sym, ap, subst, ◌∙◌, ⊎_elim, ne_eqb}
 use Rattle.std.proofs.Math.ListN.{length-set}
 use Rattle.std.proofs.lemmas.Bool.Decides.{eqb_tells}
+use Rattle.std.proofs.lemmas.Option.{same_Some}
 use Rattle.std.specs.Prelude.{if◌then◌else◌}
 use Rattle.std.specs.List.{slice_get}
 use Rattle.evp_graph.specs.declared.route.Route.{Route}
@@ -19,7 +20,7 @@ use Rattle.evp_stone.proofs.TakeStep.{AreSame}
 use Rattle.evp_core.specs.Lists.{ListsShape, HasLists, ListsGo, OneLeft, taken_on, given_on, where_ends, left_by}
 use Rattle.evp_core.specs.WorldShape.{WorldShape, HasRules, own_of}
 use Rattle.evp_core.specs.WorldTurned.{WorldTurned, counts_before, counts_behind, turned_by}
-use Rattle.evp_core.proofs.Frame.{StayFor, acted_as, gives_once, some_route}
+use Rattle.evp_core.proofs.Frame.{StayFor, acted_as, gives_once}
 use Rattle.evp_core.proofs.Given.{role_gives, same_actor}
 use Rattle.evp_core.proofs.ListsKeep.{is_first}
 
@@ -86,7 +87,7 @@ module _ (old : WorldShape) (rules : HasRules old) (new : WorldShape) (number : 
       turned.was.role turned.now.role turn was_acted.role turned.turned.role in
       ⊎_elim (λ same. same)
       (λ one.
-      let same : one.route ≡ route = some_route one.route route (sym one.there ∙ there) in
+      let same : one.route ≡ route = same_Some one.route route (sym one.there ∙ there) in
       absurd (apart (gives_once job other number actor.role turned.was.role route (rules.numbered other actor at)
       (rules.numbered number turned.was turned.there) gives (subst (GivesOn job turned.was.role) same one.gives))))
       tells

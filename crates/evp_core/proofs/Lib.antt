@@ -1,7 +1,9 @@
 pub mod Accounting
+pub mod Behind
 pub mod Bounded
 pub mod Earlier
 pub mod Edges
+pub mod Elements
 pub mod Entering
 pub mod Finish
 pub mod Frame
@@ -18,7 +20,9 @@ pub mod PartsTurn
 pub mod Progress
 pub mod Rests
 pub mod Rotation
+pub mod Rounds
 pub mod Running
 pub mod Stages
+pub mod Telling
 pub mod Weaker
 pub mod Whole

@@ -3,6 +3,7 @@ use Rattle.std.proofs.Common.{◌≡◌, ◌≢◌, ℕ, zero, suc, ◌+◌, ◌
 use Rattle.std.proofs.Common.{refl, sym, ap, subst, ◌∙◌, arith, length-append, ⊎_elim}
 use Rattle.std.proofs.Math.ListN.{length-set}
 use Rattle.std.proofs.lemmas.Bool.Decides.{eqb_tells}
+use Rattle.std.proofs.lemmas.Option.{same_Some}
 use Rattle.std.specs.List.{slice_get, AllByRecursion}
 use Rattle.evp_queue.specs.Flow.{Carries}
 use Rattle.evp_queue.proofs.Flows.{LeavesFirst, carries_fewer, carries_behind, carries_more, carries_still}
@@ -13,7 +14,6 @@ use Rattle.evp_stone.specs.Port.{LeadsTo, IsPlacedIn}
 use Rattle.evp_stone.specs.Route.{last_stone}
 use Rattle.evp_stone.proofs.Change.{set_here, set_elsewhere}
 use Rattle.evp_core.specs.Lists.{ListsShape, KeepsRule, HasLists, IsFirst, left_by, joined_by}
-use Rattle.evp_core.proofs.Frame.{some_route}
 
 pub there_below : {X : Type 0} (xs : List X) (k : ℕ) → k < length xs → (x : X) × (slice_get xs k ≡ Some x)
 there_below [] k below = absurd (omega arith)
@@ -28,13 +28,7 @@ below_there (y ∷ xs) (suc k) x at = let b = below_there xs k x at in omega ari
 -- a route leads to one stone
 pub leads_once : (job : JobShape) (number stone other : ℕ) → LeadsTo job number stone → LeadsTo job number other → stone ≡ other
 leads_once job number stone other one two =
-    sym one.last ∙ ap last_stone (some_route one.route two.route (sym one.there ∙ two.there)) ∙ two.last
-
-number_same : (a b : ℕ) → Some a ≡ Some b → a ≡ b
-number_same a b same = cc
-
-list_same : (a b : List Entry) → Some a ≡ Some b → a ≡ b
-list_same a b same = cc
+    sym one.last ∙ ap last_stone (same_Some one.route two.route (sym one.there ∙ two.there)) ∙ two.last
 
 module _ (old : ListsShape) (has : HasLists old) where
   pub taken_there : (number stone : ℕ) → LeadsTo old.job number stone → (n : ℕ) × (slice_get old.taken number ≡ Some n)
@@ -85,7 +79,7 @@ module _ (old : ListsShape) (has : HasLists old) where
         let here : slice_get (set old.taken (route_of entry) (position_of entry + 1)) (route_of entry) ≡ Some (position_of entry + 1) =
         set_here old.taken (route_of entry) (position_of entry) (position_of entry + 1) first.count in
         let is : position_of entry + 1 ≡ taken =
-        number_same _ _ (sym here ∙ ap (slice_get (set old.taken (route_of entry) (position_of entry + 1))) (sym e.1) ∙ takes) in
+        same_Some _ _ (sym here ∙ ap (slice_get (set old.taken (route_of entry) (position_of entry + 1))) (sym e.1) ∙ takes) in
         let behind = (leaves (position_of entry) given first.count (ap (slice_get old.given) (sym e.1) ∙ gives)).others in
         subst (λ (n : ℕ). Carries route_of position_of flow stands_for old.job n taken given others) (sym e.1)
         (subst (λ (t : ℕ). Carries route_of position_of flow stands_for old.job (route_of entry) t given others) is behind))
@@ -118,7 +112,7 @@ module _ (old : ListsShape) (has : HasLists old) where
       taken = length-set old.taken (route_of entry) (position_of entry + 1) ∙ has.taken;
       given = has.given;
       each = λ other entries at. ⊎_elim
-          (λ e. let same : others ≡ entries = list_same others entries
+          (λ e. let same : others ≡ entries = same_Some others entries
           (sym (set_here old.lists stone (entry ∷ others) others was) ∙ ap (slice_get (set old.lists stone others)) (sym e.1) ∙ at) in
           subst (λ (n : ℕ). KeepsRule (left_by old stone entry others) n entries) (sym e.1)
           (subst (λ (l : List Entry). KeepsRule (left_by old stone entry others) stone l) same rule_left))
@@ -143,7 +137,7 @@ module _ (old : ListsShape) (has : HasLists old) where
         → Carries route_of position_of flow stands_for old.job number taken given entries_now
     carries_joined number on taken given takes gives =
         ⊎_elim (λ e.
-        let is : position_of entry + 1 ≡ given = number_same _ _
+        let is : position_of entry + 1 ≡ given = same_Some _ _
         (sym (set_here old.given (route_of entry) (position_of entry) (position_of entry + 1) next) ∙ ap (slice_get given_now) (sym e.1) ∙ gives) in
         let more = carries_more route_of position_of flow stands_for old.job (route_of entry) taken (position_of entry) others entry placed.0
         (was_rule.carries (route_of entry) leads taken (position_of entry) (ap (slice_get old.taken) (sym e.1) ∙ takes) next)
@@ -185,7 +179,7 @@ module _ (old : ListsShape) (has : HasLists old) where
       taken = has.taken;
       given = length-set old.given (route_of entry) (position_of entry + 1) ∙ has.given;
       each = λ other entries at. ⊎_elim
-          (λ e. let same : entries_now ≡ entries = list_same entries_now entries
+          (λ e. let same : entries_now ≡ entries = same_Some entries_now entries
           (sym (set_here old.lists stone others entries_now was) ∙ ap (slice_get (set old.lists stone entries_now)) (sym e.1) ∙ at) in
           subst (λ (n : ℕ). KeepsRule (joined_by old stone entry others) n entries) (sym e.1)
           (subst (λ (l : List Entry). KeepsRule (joined_by old stone entry others) stone l) same rule_joined))

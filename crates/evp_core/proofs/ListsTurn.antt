@@ -1,6 +1,7 @@
 -- Lists in code, behind a take and behind a give.
 use Rattle.std.proofs.Common.{◌≡◌, ℕ, ◌+◌, ◌<◌, ◌≤◌, ◌^◌, List, [], ◌∷◌, ◌++◌, length, Option, Some, set, sym, ap, subst, ◌∙◌, arith}
 use Rattle.std.proofs.lemmas.List.{length-map}
+use Rattle.std.proofs.lemmas.Option.{same_Some}
 use Rattle.std.specs.List.{slice_get, AllByRecursion}
 use Rattle.evp_graph.specs.declared.route.Route.{Route}
 use Rattle.evp_stone.specs.declared.entry.Entry.{Entry}
@@ -15,9 +16,6 @@ use Rattle.evp_stone.proofs.JobFacts.{ends_at}
 use Rattle.evp_core.specs.Lists.{ListsShape, HasLists, HasRoom, IsFirst, MayJoin, IsPopped, IsPushed, OneLeft, OneJoined, IsFull, left_by, joined_by}
 use Rattle.evp_core.proofs.Edges.{leads_below}
 use Rattle.evp_core.proofs.ListsKeep.{there_below, below_there, left_keeps, joined_keeps}
-
-number_same : (a b : ℕ) → Some a ≡ Some b → a ≡ b
-number_same a b same = cc
 
 -- a place in a flow fits its type
 placed_fits : (job : JobShape) → IsJob job → (entry : Entry) (stone : ℕ) → LeadsTo job (route_of entry) stone → IsPlacedIn job entry
@@ -34,13 +32,13 @@ module _ (old : ListsShape) (stone : ℕ) (entry : Entry) where
   pub first_fits : IsJob old.job → IsFirst old stone entry → (count : ℕ) → slice_get old.taken (route_of entry) ≡ Some count
       → count + 1 < 2 ^ 32
   first_fits is first count at =
-      let same = number_same count (position_of entry) (sym at ∙ first.count) in
+      let same = same_Some count (position_of entry) (sym at ∙ first.count) in
       let fits = placed_fits old.job is entry stone first.leads first.placed in omega arith
 
   pub next_fits : IsJob old.job → MayJoin old stone entry → (count : ℕ) → slice_get old.given (route_of entry) ≡ Some count
       → count + 1 < 2 ^ 32
   next_fits is next count at =
-      let same = number_same count (position_of entry) (sym at ∙ next.next) in
+      let same = same_Some count (position_of entry) (sym at ∙ next.next) in
       let fits = placed_fits old.job is entry stone next.leads next.placed in omega arith
 
   module _ (lists : List (List Entry)) (taken : List ℕ) (pop : IsPopped old.lists lists stone entry)

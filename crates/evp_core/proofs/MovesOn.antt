@@ -1,6 +1,7 @@
 -- An actor that can move does so in its next turn, unless there is no memory.
 use Rattle.std.proofs.Common.{◌≡◌, ◌⊎◌, ℕ, List, [], ◌∷◌, length, Option, Some, None}
 use Rattle.std.proofs.Common.{refl, sym, ap, subst, ◌∙◌, arith, inl, inr, ⊎_elim, ne_eqb}
+use Rattle.std.proofs.lemmas.Option.{same_Some}
 use Rattle.std.specs.Prelude.{if◌then◌else◌}
 use Rattle.std.specs.List.{slice_get}
 use Rattle.evp_stone.specs.declared.entry.Entry.{Entry}
@@ -14,12 +15,13 @@ use Rattle.evp_stone.specs.JobShape.{JobShape}
 use Rattle.evp_stone.specs.Port.{LeadsTo, Rose}
 use Rattle.evp_stone.specs.State.{StoneWork}
 use Rattle.evp_stone.specs.Turned.{Counted, RoleGoes, StoneGoes, FirstGoes, HandGoes, NextComes, SourceGoes, PartGoes, NoRoom}
+use Rattle.evp_core.specs.Answers.{Takes}
 use Rattle.evp_core.specs.Lists.{ListsShape}
 use Rattle.evp_core.specs.Moving.{Moves}
 use Rattle.evp_core.specs.WorldShape.{WorldShape, own_of}
 use Rattle.evp_core.specs.WorldTurned.{counts_before, counts_behind, crowds, lacks, one_if_long, one_if_empty}
 use Rattle.evp_core.proofs.ListsKeep.{leads_once}
-use Rattle.evp_core.proofs.Stages.{CanMove, CanWork, Takes, HasRoom}
+use Rattle.evp_core.proofs.Stages.{CanMove, CanWork, HasRoom}
 
 abbrev Goes : Turn → Type 0
 Goes turn = (turn ≡ Moved) ⊎ (turn ≡ Memory)
@@ -123,9 +125,6 @@ module _ (lists after : ListsShape) (own : Option ℕ) where
 pub moves_on : (world : WorldShape) (number : ℕ) (actor : ActorShape) → slice_get world.actors number ≡ Some actor
     → CanMove world.lists actor.role → Moves world number
 moves_on world number actor at can new turn turned =
-    let same : actor ≡ turned.was = actor_same actor turned.was (sym at ∙ turned.there) in
+    let same : actor ≡ turned.was = same_Some actor turned.was (sym at ∙ turned.there) in
     role_goes world.lists turned.after (own_of turned.was.role) turned.was.role turned.now.role turn refl
     (subst (λ (a : ActorShape). CanMove world.lists a.role) same can) turned.turned.role
-  where
-    actor_same : (a b : ActorShape) → Some a ≡ Some b → a ≡ b
-    actor_same a b same = cc

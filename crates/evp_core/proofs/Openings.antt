@@ -1,5 +1,6 @@
 -- The opening world has its rules.
-use Rattle.std.proofs.Common.{◌≡◌, ℕ, zero, suc, ◌+◌, ◌<◌, Bool, List, [], ◌∷◌, ◌++◌, length, Option, Some, None, refl, sym, ap, subst, ◌∙◌, arith, ⊎_elim, inl, inr, ◌⊎◌, length-append}
+use Rattle.std.proofs.Common.{◌≡◌, ℕ, zero, suc, ◌+◌, ◌<◌, Bool, List, [], ◌∷◌, ◌++◌, length, Option, Some, None, refl, sym, ap, subst, ◌∙◌, arith, ⊎_elim}
+use Rattle.std.proofs.Common.{length-append}
 use Rattle.std.proofs.lemmas.Bool.Decides.{eqb_tells}
 use Rattle.std.proofs.lemmas.List.Sums.{sum_by-cons}
 use Rattle.std.proofs.lemmas.Option.{slice_get_within, get_or_from_slice_get, slice_get-get_or}
@@ -22,6 +23,7 @@ use Rattle.evp_core.specs.Progress.{due_in_hand, due_of, due_turns}
 use Rattle.evp_core.specs.WorldShape.{WorldShape, HasRules, IsOpeningWorld, own_of}
 use Rattle.evp_core.proofs.Earlier.{taken_is, listed_end}
 use Rattle.evp_core.proofs.ListsKeep.{below_there}
+use Rattle.evp_core.proofs.Elements.{snoc_at}
 
 zero_there : (n k : ℕ) → k < n → slice_get {X = ℕ} (replicate n 0) k ≡ Some 0
 zero_there zero k below = absurd (omega arith)
@@ -125,14 +127,6 @@ module _ (cells : Cells) (lists : ListsShape) (actors : List ActorShape) (has : 
     actors = λ number actor at. (opening.each number actor at).opens;
     done = refl;
   }
-
-snoc_at : (xs : List ActorShape) (x : ActorShape) (k : ℕ) (y : ActorShape) → slice_get (xs ++ x ∷ []) k ≡ Some y
-    → (slice_get xs k ≡ Some y) ⊎ ((k ≡ length xs) × (x ≡ y))
-snoc_at [] x zero y at = inr (refl, cc)
-snoc_at [] x (suc k) y at = absurd (cc)
-snoc_at (z ∷ xs) x zero y at = inl at
-snoc_at (z ∷ xs) x (suc k) y at =
-    ⊎_elim (λ there. inl there) (λ here. inr (ap suc here.0, here.1)) (snoc_at xs x k y at)
 
 -- one actor more
 pub opens_more : (job : JobShape) (cells : Cells) (bound : ℕ) (actors : List ActorShape) (actor : ActorShape)

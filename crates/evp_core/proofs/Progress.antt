@@ -20,15 +20,13 @@ use Rattle.evp_core.specs.Lists.{ListsShape, ListsGo, OneLeft, OneJoined, taken_
 use Rattle.evp_core.specs.Progress.{counted_turns, due_in_hand, due_of, due_turns}
 use Rattle.evp_core.specs.WorldShape.{WorldShape, own_of}
 use Rattle.evp_core.specs.WorldTurned.{WorldTurned, counts_before, counts_behind}
+use Rattle.evp_core.proofs.Elements.{one_above}
 
 pub sum_at : {X : Type 0} (f : X → ℕ) (xs : List X) (k : ℕ) (x y : X) → slice_get xs k ≡ Some x
     → sum_by f (set xs k y) + f x ≡ sum_by f xs + f y
 sum_at f xs k x y at =
     ap (λ (z : _). sum_by f (set xs k y) + f z) (sym (get_or_from_slice_get xs k x x at))
     ∙ sum_by-set f xs k y x (slice_get_within xs k x at)
-
-one_above : (n : ℕ) → Some n ≡ Some (n + 1) → ⊥
-one_above n same = let e : n ≡ n + 1 = cc in omega arith
 
 -- what a turn did to the lists: nothing, or an entry left one or joined one
 module _ (own : Option ℕ) (old new : ListsShape) where

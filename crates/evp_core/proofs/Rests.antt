@@ -1,5 +1,5 @@
 -- A turn that doesn't move leaves the lists and the actor's work as they were.
-use Rattle.std.proofs.Common.{◌≡◌, ◌≢◌, ℕ, ◌+◌, List, [], ◌∷◌, Option, Some, None, refl, sym, ap, ◌∙◌, arith, eq-eqb, inl, inr}
+use Rattle.std.proofs.Common.{◌≡◌, ◌≢◌, ℕ, ◌+◌, List, [], ◌∷◌, Option, Some, None, refl, sym, ap, ◌∙◌, eq-eqb, inl, inr}
 use Rattle.std.specs.Prelude.{if◌then◌else◌, Bool}
 use Rattle.std.specs.List.{slice_get}
 use Rattle.evp_graph.specs.declared.route.Route.{Route}
@@ -18,6 +18,7 @@ use Rattle.evp_stone.proofs.Change.{set_here}
 use Rattle.evp_core.specs.Lists.{ListsShape, HasLists, ListsGo, taken_on, given_on, where_ends, left_by}
 use Rattle.evp_core.specs.Progress.{due_of}
 use Rattle.evp_core.specs.WorldTurned.{counts_before, counts_behind}
+use Rattle.evp_core.proofs.Elements.{one_above}
 use Rattle.evp_core.proofs.ListsKeep.{is_first}
 
 -- the work stays
@@ -93,9 +94,6 @@ module _ (job : JobShape) (before after : Counted) where
   role_rests (works old unended) (feeds new) turn rests goes = absurd goes
   role_rests (works old unended) (works new still) turn rests goes = stone_rests old new old.waiting old.hand turn rests goes
 
-one_above : (n : ℕ) → Some (n + 1) ≡ Some n → ⊥
-one_above n same = let e : n + 1 ≡ n = cc in omega arith
-
 -- where no count moved nothing left a list or joined one
 pub lists_rest : (own : Option ℕ) (old new : ListsShape) → HasLists old → ListsGo own old new
     → CountsStay (counts_before old own) (counts_behind old new own) → new ≡ old
@@ -113,10 +111,10 @@ lists_rest own old new has (inr (inl (stone, of, (entry, left)))) stay =
     ∙ set_here old.taken (route_of entry) (position_of entry) (position_of entry + 1) left.count in
     let was : taken_on old (Some stone) (route_of entry) ≡ Some (position_of entry) = ends old refl ∙ left.count in
     absurd (one_above (position_of entry)
-    (sym now ∙ ap (λ (o : Option ℕ). taken_on new o (route_of entry)) (sym of) ∙ stay.taken (route_of entry)
-    ∙ ap (λ (o : Option ℕ). taken_on old o (route_of entry)) of ∙ was))
+    (sym (sym now ∙ ap (λ (o : Option ℕ). taken_on new o (route_of entry)) (sym of) ∙ stay.taken (route_of entry)
+    ∙ ap (λ (o : Option ℕ). taken_on old o (route_of entry)) of ∙ was)))
 lists_rest own old new has (inr (inr (stone, entry, joined))) stay =
     let now : given_on new (route_of entry) ≡ Some (position_of entry + 1) =
     ap (λ (l : ListsShape). given_on l (route_of entry)) joined.is
     ∙ set_here old.given (route_of entry) (position_of entry) (position_of entry + 1) joined.count in
-    absurd (one_above (position_of entry) (sym now ∙ stay.given (route_of entry) ∙ joined.count))
+    absurd (one_above (position_of entry) (sym (sym now ∙ stay.given (route_of entry) ∙ joined.count)))

@@ -2,7 +2,8 @@
 use Rattle.std.proofs.Common.{◌≡◌, ◌≢◌, ℕ, ◌+◌, ◌<◌, ◌≤◌, Bool, true, false, length, Some, set, refl, sym, ap, subst, ◌∙◌, arith, ⊎_elim}
 use Rattle.std.proofs.Math.ListN.{length-set}
 use Rattle.std.proofs.lemmas.Bool.Decides.{eqb_tells}
-use Rattle.std.specs.List.{slice_get}
+use Rattle.std.proofs.lemmas.Option.{same_Some}
+use Rattle.std.specs.List.{slice_get, range_with_len}
 use Rattle.evp_stone.specs.declared.turn.Turn.{Turn}
 use Rattle.evp_stone.specs.declared.turn.Turn.TheVariants.{Moved, Idle, Blocked, Closed, Memory}
 use Rattle.evp_stone.specs.Actor.{Role, feeds, works, ActorShape}
@@ -10,12 +11,14 @@ use Rattle.evp_stone.specs.Feeding.{SourceWork}
 use Rattle.evp_stone.specs.JobShape.{JobShape}
 use Rattle.evp_stone.specs.State.{StoneWork}
 use Rattle.evp_stone.proofs.Change.{set_here, set_elsewhere}
-use Rattle.evp_core.specs.Held.{IsHeld, IsOfSame, HasPassed}
+use Rattle.evp_core.specs.Held.{IsHeld, IsOfSame, HasPassed, HasStopped}
 use Rattle.evp_core.specs.Lists.{ListsShape}
 use Rattle.evp_core.specs.Progress.{turns_left}
+use Rattle.evp_core.specs.Rotation.{all_numbers}
 use Rattle.evp_core.specs.Turns.{entries_in}
 use Rattle.evp_core.specs.WorldShape.{WorldShape, own_of}
-use Rattle.evp_core.specs.WorldTurned.{WorldTurned, counts_before, counts_behind, done_by}
+use Rattle.evp_core.specs.WorldTurned.{WorldTurned, HaveTurned, counts_before, counts_behind, done_by}
+use Rattle.evp_core.proofs.Behind.{one_further, stops_in_order}
 use Rattle.evp_core.proofs.Bounded.{few_turns}
 use Rattle.evp_core.proofs.GoOn.{closed_or_moves}
 use Rattle.evp_core.proofs.HeldOn.{rest_counts, turned_job}
@@ -37,9 +40,6 @@ AreStuck world bound =
     (number : ℕ) (actor : ActorShape) → number < bound → slice_get world.actors number ≡ Some actor → CanMove world.lists actor.role → ⊥
 
 module _ (old new : WorldShape) (number : ℕ) (turn : Turn) (turned : WorldTurned old new number turn) where
-  actor_same : (a b : ActorShape) → Some a ≡ Some b → a ≡ b
-  actor_same a b same = cc
-
   -- a turn that neither moves nor wants memory shows that its actor can't move
   pub stuck_on : IsHeld old → turn ≢ Moved → turn ≢ Memory → AreStuck old number → AreStuck new (number + 1)
   stuck_on held moved memory stuck other actor below at can =
@@ -52,7 +52,7 @@ module _ (old new : WorldShape) (number : ℕ) (turn : Turn) (turned : WorldTurn
       ap (λ (w : WorldShape). slice_get w.actors other) (sym turned.is) ∙ at in
       ⊎_elim
       (λ e.
-      let is : turned.now ≡ actor = actor_same turned.now actor
+      let is : turned.now ≡ actor = same_Some turned.now actor
       (sym (set_here old.actors number turned.was turned.now turned.there) ∙ ap (slice_get (set old.actors number turned.now)) (sym e.1) ∙ now_at) in
       let now_can : CanMove old.lists turned.now.role = subst (λ (a : ActorShape). CanMove old.lists a.role) (sym is) was_can in
       let could = can_same old.lists turned.was.role turned.now.role rests.1 now_can in
@@ -96,6 +96,7 @@ pub record InPass (start now : WorldShape) (bound : ℕ) (moved : Bool) : Type 0
   pub same : IsOfSame start now
   pub done : now.done ≤ start.done + bound
   pub gone : HasGone start now bound moved
+  pub turned : HaveTurned start now (range_with_len 0 bound)
 
 pub pass_starts : (world : WorldShape) → IsHeld world → InPass world world 0 false
 pass_starts world held = record {
@@ -103,6 +104,7 @@ pass_starts world held = record {
   same = record { job = refl; count = refl; left = omega arith };
   done = omega arith;
   gone = λ number actor below at can. absurd (omega arith);
+  turned = refl;
 }
 
 same_on : (start old new : WorldShape) (number : ℕ) (turn : Turn) → WorldTurned old new number turn → IsOfSame start old
@@ -119,6 +121,9 @@ done_on start old new number turn turned done =
     let is = ap (λ (w : WorldShape). w.done) turned.is in
     let more = done_more turn old.done in omega arith
 
+not_memory : Moved ≢ Memory
+not_memory e = cc
+
 -- one more turn, which moved
 pub pass_moved : (start old new : WorldShape) (number : ℕ) (moved : Bool) → InPass start old number moved → WorldTurned old new number Moved
     → IsHeld new → InPass start new (number + 1) true
@@ -129,6 +134,7 @@ pass_moved start old new number moved pass turned held =
       same = same_on start old new number Moved turned pass.same (omega arith);
       done = done_on start old new number Moved turned pass.done;
       gone = let left = pass.same.left in omega arith;
+      turned = one_further start old new number Moved not_memory pass.turned turned;
     }
 
 -- one more, which didn't
@@ -141,6 +147,7 @@ pass_rests start old new number moved turn pass rests memory turned held =
       same = same_on start old new number turn turned pass.same left;
       done = done_on start old new number turn turned pass.done;
       gone = gone_on moved pass.gone left;
+      turned = one_further start old new number turn memory pass.turned turned;
     }
   where
     gone_on : (b : Bool) → HasGone start old number b → turns_left new ≤ turns_left old → HasGone start new (number + 1) b
@@ -157,6 +164,11 @@ pass_stops start old new number moved pass turned held below = (
   same_on start old new number Memory turned pass.same (rest_left old new number Memory turned held not_moved),
   let done = done_on start old new number Memory turned pass.done in omega arith,
 )
+
+pub stops_so : (start old new : WorldShape) (number : ℕ) (moved : Bool) → InPass start old number moved → WorldTurned old new number Memory
+    → number < length start.actors → HasStopped start new (all_numbers start)
+stops_so start old new number moved pass turned below =
+    stops_in_order start old new (length start.actors) number below pass.turned turned
 
 -- the end of a pass
 pub pass_ends : (start now : WorldShape) (moved : Bool) → InPass start now (length start.actors) moved → HasPassed start now moved

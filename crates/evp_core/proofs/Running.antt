@@ -1,21 +1,16 @@
 -- Turns of a list of numbers, one more behind the others.
-use Rattle.std.proofs.Common.{◌≡◌, ◌≢◌, ℕ, ◌+◌, ◌<◌, List, [], ◌∷◌, ◌++◌, length, take, refl, sym, subst}
+use Rattle.std.proofs.Common.{◌≡◌, ◌≢◌, ℕ, ◌+◌, ◌^◌, ◌<◌, List, [], ◌∷◌, length, take, refl, sym, ap, subst, ◌∙◌, arith}
 use Rattle.std.specs.Prelude.{get_or, Ok, Bool, true, false}
-use Rattle.evp_core.proofs.Rotation.{same_actors}
 use Rattle.std.proofs.lemmas.Option.{slice_get-get_or}
 use Rattle.std.proofs.lemmas.List.{take_more}
 use Rattle.evp_stone.specs.declared.turn.Turn.{Turn}
-use Rattle.evp_stone.specs.declared.turn.Turn.TheVariants.{Moved, Memory}
+use Rattle.evp_stone.specs.declared.turn.Turn.TheVariants.{Moved, Idle, Blocked, Closed, Memory}
+use Rattle.evp_plan.specs.Counts.{raised}
 use Rattle.evp_core.specs.Held.{HasStopped, Steps}
 use Rattle.evp_core.specs.WorldShape.{WorldShape}
-use Rattle.evp_core.specs.WorldTurned.{WorldTurned, HaveTurned}
-
-have_more : (old between new : WorldShape) (numbers : List ℕ) (number : ℕ) (turn : Turn) → HaveTurned old between numbers → turn ≢ Memory
-    → WorldTurned between new number turn → HaveTurned old new (numbers ++ number ∷ [])
-have_more old between new [] number turn have memory turned =
-    (new, (turn, memory, subst (λ (w : WorldShape). WorldTurned w new number turn) have turned), refl)
-have_more old between new (n ∷ numbers) number turn have memory turned =
-    (have.0, have.1, have_more have.0 between new numbers number turn have.2 memory turned)
+use Rattle.evp_core.specs.WorldTurned.{WorldTurned, HaveTurned, done_by, done_after}
+use Rattle.evp_core.proofs.Behind.{have_more}
+use Rattle.evp_core.proofs.Rotation.{same_actors}
 
 pub runs_on : (old between new : WorldShape) (numbers : List ℕ) (k : ℕ) (turn : Turn) → k < length numbers
     → HaveTurned old between (take k numbers) → turn ≢ Memory → WorldTurned between new (get_or numbers k 0) turn
@@ -52,3 +47,23 @@ pub as_many : (old new : WorldShape) (number : ℕ) (moved : Bool) → Steps old
     → length new.actors ≡ length old.actors
 as_many old new number true steps = same_actors old new number Moved steps
 as_many old new number false steps = same_actors old new number steps.0 steps.3
+
+raised_once : (turn : Turn) (done : ℕ) → turn ≢ Memory → done_by turn done ≡ raised done
+raised_once Moved done memory = refl
+raised_once Idle done memory = refl
+raised_once (Blocked target) done memory = refl
+raised_once Closed done memory = refl
+raised_once Memory done memory = absurd (memory refl)
+
+-- each turn with memory counts once, until the count stays
+pub done_more : (old new : WorldShape) (numbers : List ℕ) → old.done < 2 ^ 64 → HaveTurned old new numbers
+    → new.done ≡ done_after (length numbers) old.done
+done_more old new [] below have =
+    let same = ap (λ (w : WorldShape). w.done) have in
+    let stays : old.done ≡ done_after 0 old.done = grind arith in same ∙ stays
+done_more old new (number ∷ numbers) below have =
+    let once : have.0.done ≡ raised old.done = ap (λ (w : WorldShape). w.done) have.1.2.is ∙ raised_once have.1.0 old.done have.1.1 in
+    let under : have.0.done < 2 ^ 64 = grind arith in
+    let then = done_more have.0 new numbers under have.2 in
+    let all : done_after (length numbers) (raised old.done) ≡ done_after (length (number ∷ numbers)) old.done = grind arith in
+    then ∙ ap (done_after (length numbers)) once ∙ all

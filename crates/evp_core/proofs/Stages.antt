@@ -14,35 +14,17 @@ use Rattle.evp_stone.specs.Opening.{IsNumbered}
 use Rattle.evp_stone.specs.Port.{LeadsTo}
 use Rattle.evp_stone.specs.Route.{last_stone}
 use Rattle.evp_stone.specs.State.{RouteWork, StoneWork, round_in}
-use Rattle.evp_stone.specs.Turned.{HasEnded}
-use Rattle.evp_core.specs.Lists.{ListsShape, IsEmpty, IsFull, taken_on, given_on}
+use Rattle.evp_core.specs.Answers.{GivesTo, Takes, StandsIdle}
+use Rattle.evp_core.specs.Lists.{ListsShape, IsFull, taken_on, given_on}
 use Rattle.evp_core.specs.Moving.{IsClosed}
 use Rattle.evp_core.specs.WorldShape.{WorldShape, HasRules, own_of}
 use Rattle.evp_core.proofs.Edges.{leads_below}
 use Rattle.evp_core.proofs.Given.{waits_on}
 use Rattle.evp_core.proofs.ListsKeep.{there_below}
 
--- the next entry that the actor gives is for this stone
-abbrev pub GivesTo : JobShape → Role → ℕ → Type 0
-GivesTo job (feeds work) target =
-    ((part : Part) × (parts : List Part) × (to_come job work ≡ part ∷ parts)) × LeadsTo job work.route target
-GivesTo job (works work unended) target =
-    (entry : Entry) × (others : List Entry) × (work.waiting ≡ entry ∷ others) × LeadsTo job (route_of entry) target
-
 abbrev pub HasRoom : ListsShape → ℕ → Type 0
 HasRoom lists stone =
     (entries : List Entry) × (slice_get lists.lists stone ≡ Some entries) × (length entries ≢ lists.job.queue)
-
--- nothing waits, none is in hand, and rounds are to come
-pub record Takes (job : JobShape) (work : StoneWork) : Type 0 where
-  pub waiting : work.waiting ≡ []
-  pub hand : work.hand ≡ None
-  pub unended : HasEnded job work → ⊥
-
--- it takes, and there is nothing to take
-abbrev pub StandsIdle : ListsShape → Role → Type 0
-StandsIdle lists (feeds work) = ⊥
-StandsIdle lists (works work unended) = Takes lists.job work × IsEmpty lists work.stone
 
 -- it gives, and there is no room
 abbrev pub StandsBlocked : ListsShape → Role → Type 0

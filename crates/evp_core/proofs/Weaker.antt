@@ -10,7 +10,8 @@ use Rattle.evp_stone.specs.Flow.{Part}
 use Rattle.evp_stone.specs.JobShape.{JobShape}
 use Rattle.evp_stone.specs.Port.{Counting, Rose}
 use Rattle.evp_stone.specs.State.{StoneWork}
-use Rattle.evp_stone.specs.Turned.{Counted, counted, CountsStay, OneGiven, OneTaken, NoRoom, RoleGoes, StoneGoes, FirstGoes, HandGoes, NextComes, SourceGoes, PartGoes, NoneGoes, HasTurned}
+use Rattle.evp_stone.specs.Turned.{Counted, counted, CountsStay, OneGiven, OneTaken, NoRoom, RoleGoes, StoneGoes, FirstGoes, HandGoes, NextComes, SourceGoes}
+use Rattle.evp_stone.specs.Turned.{PartGoes, NoneGoes, HasTurned}
 
 module _ (job : JobShape) (taken now given later : Counting) (empties most none some : ℕ) (fulls all few many : ℕ → ℕ)
     (empty : Rose empties most → Rose none some) (full : (stone : ℕ) → Rose (fulls stone) (all stone) → Rose (few stone) (many stone)) where

@@ -1,5 +1,6 @@
 -- What every world keeps, and what it is made of.
-use Rattle.std.specs.Prelude.{◌≡◌, ◌≢◌, ◌<◌, ◌≤◌, ℕ, length, Bool, true, false, List, [], Result, Ok, Err, take, slice_get}
+use Rattle.std.specs.Prelude.{◌≡◌, ◌≢◌, ◌<◌, ◌≤◌, ℕ, length, Bool, true, false, List, [], Result}
+use Rattle.std.specs.Prelude.{Ok, Err, take, slice_get}
 use Rattle.std.specs.Prelude.{Some}
 use Rattle.evp_base.specs.declared.memory.Memory as base
 use Rattle.evp_cache.specs.Known.{Cells, IsCacheOf}

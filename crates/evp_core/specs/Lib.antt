@@ -1,3 +1,4 @@
+pub mod Answers
 pub mod Lists
 pub mod WorldShape
 pub mod WorldTurned
@@ -6,4 +7,5 @@ pub mod Moving
 pub mod Owned
 pub mod Progress
 pub mod Reach
+pub mod Rotation
 pub mod Turns

@@ -1,6 +1,6 @@
 -- How many turns were made for the entries so far, and how many are still due for those that were
--- taken. An entry has four turns at most: it is given, it is taken, it is dealt with, and its record
--- is acted on later where it was kept.
+-- taken. An entry has four turns at most: it is given, it is taken, it is dealt with, and its
+-- record is acted on later where it was kept.
 use Rattle.std.specs.Prelude.{ℕ, ◌+◌, ◌-◌, ◌*◌, ◌≤◌, List, length, Option, Some, None}
 use Rattle.std.specs.List.{sum, sum_by}
 use Rattle.evp_stone.specs.declared.entry.Entry.{Entry}

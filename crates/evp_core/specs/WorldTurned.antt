@@ -1,5 +1,6 @@
 -- What one turn of a world does.
-use Rattle.std.specs.Prelude.{◌≡◌, ◌≢◌, ℕ, ◌==◌, if◌then◌else◌, List, [], ◌∷◌, length, Option}
+use Rattle.std.specs.Prelude.{◌≡◌, ◌≢◌, ℕ, ◌+◌, ◌-◌, ◌^◌, min, ◌==◌, if◌then◌else◌, List, [], ◌∷◌}
+use Rattle.std.specs.Prelude.{length, Option}
 use Rattle.std.specs.Prelude.{Some, None, slice_get, slice_set}
 use Rattle.evp_plan.specs.Counts.{raised}
 use Rattle.evp_stone.specs.declared.entry.Entry.{Entry}
@@ -44,6 +45,10 @@ done_by Idle done = raised done
 done_by (Blocked target) done = raised done
 done_by Closed done = raised done
 done_by Memory done = done
+
+-- and behind so many, each with memory
+abbrev pub done_after : ℕ → ℕ → ℕ
+done_after turns done = min (done + turns) (2 ^ 64 - 1)
 
 -- when the actor of this number has become another, and the lists these
 abbrev pub turned_by : WorldShape → ℕ → ActorShape → ListsShape → Turn → WorldShape

@@ -1,5 +1,6 @@
 //! Lists of entries by stones.
-ghost use Rattle.std.specs.Prelude.{◌≡◌, ◌<◌, Some, [], length, slice_get, replicate, IfOk, IfSome, IfNone};
+ghost use Rattle.std.specs.Prelude.{◌≡◌, ◌<◌, Some, [], length, slice_get, replicate, IfOk, IfSome};
+ghost use Rattle.std.specs.Prelude.{IfNone};
 ghost use Rattle.std.specs.Prelude.{List};
 ghost use Rattle.evp_stone.specs.declared.entry.Entry.{Entry as Listed};
 ghost use Rattle.evp_core.specs.Lists.{entries_in, rooms_of, HasRoomAt, IsPopped, IsPushed};
@@ -28,7 +29,8 @@ pub(crate) fn empty_lists(
 /// Takes the first entry of a stone's list.
 pub(crate) fn pop(lists: &mut Vec<VecDeque<Entry>>, stone: usize) -> Option<Entry>
     requires { stone < length lists.old.items }
-    ensures some { IfSome result (IsPopped (entries_in lists.old.items) (entries_in lists.new.items) stone) }
+    ensures some { IfSome result (IsPopped (entries_in lists.old.items)
+        (entries_in lists.new.items) stone) }
     ensures empty { IfNone result (slice_get (entries_in lists.old.items) stone ≡ Some []) }
     ensures none { IfNone result (entries_in lists.new.items ≡ entries_in lists.old.items) }
     ensures room { rooms_of lists.new.items ≡ rooms_of lists.old.items }
@@ -49,7 +51,8 @@ pub(crate) fn count(lists: &[VecDeque<Entry>], stone: usize) -> usize
 pub(crate) fn push(lists: &mut Vec<VecDeque<Entry>>, stone: usize, entry: Entry)
     requires within { stone < length lists.old.items }
     requires room { HasRoomAt lists.old.items stone }
-    ensures pushed { IsPushed (entries_in lists.old.items) (entries_in lists.new.items) stone entry }
+    ensures pushed { IsPushed (entries_in lists.old.items) (entries_in lists.new.items) stone
+        entry }
     ensures room { rooms_of lists.new.items ≡ rooms_of lists.old.items }
 {
     lists[stone].push_back_reserved(entry);

@@ -1,12 +1,15 @@
 //! Worlds.
-ghost use Rattle.std.specs.Prelude.{◌≡◌, ◌+◌, ◌<◌, ◌≤◌, [], length, vec_capacity, All, IfOk, OnOk, OnErr};
+ghost use Rattle.std.specs.Prelude.{◌≡◌, ◌+◌, ◌^◌, ◌<◌, ◌≤◌, [], length, vec_capacity, All, IfOk};
+ghost use Rattle.std.specs.Prelude.{OnOk, OnErr};
 ghost use Rattle.evp_core.specs.Held.{world_of, IsHeld, IsOfSame, Steps, HasPassed, HasStopped};
 ghost use Rattle.evp_core.specs.Held.{AreOpening};
+ghost use Rattle.evp_core.specs.Answers.{AnswersFor};
+ghost use Rattle.evp_core.specs.Rotation.{all_numbers, HaveRotated, HasStoppedIn};
 ghost use Rattle.evp_stone.specs.WholeAccounts.{AreAccounts};
 ghost use Rattle.evp_core.specs.Moving.{AreClosed, CanGoOn};
 ghost use Rattle.evp_core.specs.Turns.{turns};
 ghost use Rattle.evp_core.specs.WorldShape.{HasRules, IsOpeningWorld};
-ghost use Rattle.evp_core.specs.WorldTurned.{WorldTurned, HaveTurned, done_by};
+ghost use Rattle.evp_core.specs.WorldTurned.{WorldTurned, HaveTurned, done_by, done_after};
 
 use crate::lists::Lists;
 use crate::reach::Reach;
@@ -122,6 +125,7 @@ impl<'a> World<'a> {
     pub fn turn(&mut self, actor: u16) -> Turn
         requires { actor < length self.old.actors }
         ensures turned { WorldTurned self.old self.new actor result }
+        ensures answers { AnswersFor self.old actor result }
         ensures held { IsHeld self.new }
     {
         let turn = go(&mut self.reach, &mut self.actors, &self.cache, actor);
@@ -163,6 +167,7 @@ impl<'a> World<'a> {
         requires { All (λ actor. actor < length self.old.actors) actors.now }
         ensures turned { OnOk result (HaveTurned self.old self.new actors.now) }
         ensures stopped { OnErr result (HasStopped self.old self.new actors.now) }
+        ensures done { OnOk result (self.new.done ≡ done_after (length actors.now) self.old.done) }
         ensures rules { HasRules self.new }
     {
         self.count();
@@ -175,14 +180,18 @@ impl<'a> World<'a> {
     // How many actors there are.
     fn count(&self) -> u16
         ensures count { result ≡ length self.now.actors }
+        ensures done { self.now.done < 2 ^ 64 }
         ensures held { IsHeld self.now }
     {
+        let _done = self.done;
         self.actors.len() as u16
     }
 
     // One turn of each actor, in order; whether one moved.
     fn pass(&mut self) -> Result<bool, Memory>
         ensures passed { IfOk result (HasPassed self.old self.new) }
+        ensures turned { OnOk result (HaveTurned self.old self.new (all_numbers self.old)) }
+        ensures stopped { OnErr result (HasStopped self.old self.new (all_numbers self.old)) }
         ensures done { self.new.done ≤ self.old.done + length self.old.actors }
         ensures same { IsOfSame self.old self.new }
         ensures held { IsHeld self.new }
@@ -199,6 +208,8 @@ impl<'a> World<'a> {
     /// Makes turns in rotation until all actors are closed, or one finds no memory.
     pub fn finish(&mut self) -> Result<(), Memory>
         ensures closed { OnOk result (AreClosed self.new) }
+        ensures turned { OnOk result (HaveRotated self.old self.new) }
+        ensures stopped { OnErr result (HasStoppedIn self.old self.new) }
         ensures turns { self.new.done ≤ self.old.done + turns self.old.lists.job }
         ensures same { IsOfSame self.old self.new }
         ensures rules { HasRules self.new }
@@ -224,11 +235,12 @@ impl<'a> World<'a> {
     }
 }
 
-// The accounts of the stones' actors, which stand behind those of the sources, in the room for them.
+// The accounts of the stones' actors, which stand behind those of the sources, in the room for
+// them.
 fn collect(
     reach: &Reach<'_>,
     cache: &PlanCache,
-    mut actors: Vec<Actor>,
+    actors: Vec<Actor>,
     mut room: Vec<Account>,
 ) -> Vec<Account>
     requires held { IsHeld (world_of cache.now reach.now.lists actors.items 0) }
@@ -237,12 +249,12 @@ fn collect(
     requires enough { length reach.now.lists.job.stones ≤ vec_capacity room }
     ensures { AreAccounts reach.now.lists.job result.items }
 {
-    let parts = reach.lists.job().parts();
-    for _ in 0..parts.sources.len() {
-        actors.remove(0);
+    let sources = reach.lists.job().parts().sources.len();
+    let mut actors = actors.into_iter();
+    for _ in 0..sources {
+        actors.next();
     }
-    for _ in 0..parts.stones.len() {
-        let actor = actors.remove(0);
+    for actor in actors {
         room.push_reserved(actor.account());
     }
     room

@@ -50,7 +50,8 @@ push-requires-clause-room c =
     let test = c.if-count-most.false in
     let fewer : c.count.result < c.self.inside.job.now.queue = omega arith in
     has_room_at c.self.inside.job.now.queue c.self.inside.lists.items c.self.invariant.room c.from-place.result c.count.result
-    (λ entries at. c.count.ensures entries (ap (λ (l : List (VecDeque Entry Global)). slice_get (entries_in l) c.from-place.result) c.deref.ensures.value ∙ at)) fewer
+    (λ entries at. c.count.ensures entries
+    (ap (λ (l : List (VecDeque Entry Global)). slice_get (entries_in l) c.from-place.result) c.deref.ensures.value ∙ at)) fewer
 
 pub raise-requires-clause-within : goal.raise-requires-clause-within
 raise-requires-clause-within c =
@@ -75,7 +76,8 @@ invariant_of-self c =
     let route : c.from-route.result ≡ route_of c.args.entry = c.from-route.ensures ∙ c.route.ensures in
     let push = c.push.ensures.pushed in
     let queue : c.parts.result.now.queue ≡ old.job.queue = ap (λ (j : JobShape). j.queue) c.parts.ensures.value in
-    let count = c.count.ensures push.others (ap (λ (l : List (VecDeque Entry Global)). slice_get (entries_in l) c.from-place.result) c.deref.ensures.value ∙ push.was) in
+    let count = c.count.ensures push.others
+    (ap (λ (l : List (VecDeque Entry Global)). slice_get (entries_in l) c.from-place.result) c.deref.ensures.value ∙ push.was) in
     let test = c.if-count-most.false in
     let room : length push.others < old.job.queue = omega arith in
     let raised : c.raise.new.counts.items ≡ set old.given (route_of c.args.entry) (position_of c.args.entry + 1) =
@@ -91,7 +93,8 @@ returns-clause-joined c =
     let route : c.from-route.result ≡ route_of c.args.entry = c.from-route.ensures ∙ c.route.ensures in
     let push = c.push.ensures.pushed in
     let queue : c.parts.result.now.queue ≡ old.job.queue = ap (λ (j : JobShape). j.queue) c.parts.ensures.value in
-    let count = c.count.ensures push.others (ap (λ (l : List (VecDeque Entry Global)). slice_get (entries_in l) c.from-place.result) c.deref.ensures.value ∙ push.was) in
+    let count = c.count.ensures push.others
+    (ap (λ (l : List (VecDeque Entry Global)). slice_get (entries_in l) c.from-place.result) c.deref.ensures.value ∙ push.was) in
     let test = c.if-count-most.false in
     let room : length push.others < old.job.queue = omega arith in
     let raised : c.raise.new.counts.items ≡ set old.given (route_of c.args.entry) (position_of c.args.entry + 1) =

@@ -1,4 +1,4 @@
-use Rattle.std.proofs.Common.{◌≡◌, List, length, rules, arith, sym, ap, subst, ◌∙◌}
+use Rattle.std.proofs.Common.{◌≡◌, List, length, rules, arith, ap, subst, ◌∙◌}
 use Rattle.evp_cache.specs.Known.{IsCacheOf}
 use Rattle.evp_format.specs.Layout.{Layout}
 use Rattle.evp_stone.specs.JobShape.{JobShape}

@@ -5,6 +5,7 @@ pub mod Earlier
 pub mod Edges
 pub mod Elements
 pub mod Entering
+mod Examples
 pub mod Finish
 pub mod Frame
 pub mod Given
@@ -18,6 +19,7 @@ pub mod MovesOn
 pub mod Openings
 pub mod PartsTurn
 pub mod Progress
+pub mod Ran
 pub mod Rests
 pub mod Rotation
 pub mod Rounds

@@ -8,3 +8,6 @@ mod reach;
 mod world;
 
 pub use world::World;
+
+#[cfg(test)]
+mod tests;

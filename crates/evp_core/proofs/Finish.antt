@@ -12,14 +12,18 @@ use Rattle.evp_core.proofs.Rounds.{HavePassed, none_passed, one_pass}
 pub record InPasses (start now : WorldShape) : Type 0 where
   pub held : IsHeld now
   pub same : IsOfSame start now
-  pub passed : HavePassed start now
+  pub passes : ℕ
+  pub passed : HavePassed start now passes
+  pub few : passes + turns_left now ≤ turns_left start
   pub done : now.done + length start.actors * turns_left now ≤ start.done + length start.actors * turns_left start
 
 pub passes_start : (world : WorldShape) → IsHeld world → InPasses world world
 passes_start world held = record {
   held = held;
   same = record { job = refl; count = refl; left = omega arith };
+  passes = 0;
   passed = none_passed world;
+  few = omega arith;
   done = omega arith;
 }
 
@@ -40,7 +44,9 @@ pub passes_on : (start old new : WorldShape) → InPasses start old → IsOfSame
 passes_on start old new passes same held less done turned = record {
   held = held;
   same = same_then start old new passes.same same;
-  passed = one_pass start old new passes.passed passes.same.count turned;
+  passes = passes.passes + 1;
+  passed = one_pass start old new passes.passes passes.passed passes.same.count turned;
+  few = let few = passes.few in omega arith;
   done = let count = passes.same.count in
       one_less (length start.actors) old.done new.done (turns_left old) (turns_left new) _ (omega arith) less passes.done;
 }
@@ -58,6 +64,22 @@ passes_end start old new held passes done =
     let few : turns_left start ≤ 4 * entries_in start.lists.job = let c = held.counted in omega arith in
     let within = most (length start.actors) old.done new.done (turns_left old) start.done (turns_left start) (omega arith) passes.done
     (4 * entries_in start.lists.job) few in
+    let same : length start.actors * (4 * entries_in start.lists.job + 1) ≡ turns start.lists.job =
+    ap (λ (n : ℕ). n * (4 * entries_in start.lists.job + 1)) all in
+    omega arith
+
+passes_bound : (n p f : ℕ) → p ≤ f → (p + 1) * n ≤ n * (f + 1)
+passes_bound n p f within = let k = mul-le-mul_left {m = p + 1} {n = f + 1} n (omega arith) in
+    let turned : (p + 1) * n ≡ n * (p + 1) = omega arith in omega arith
+
+-- with the last pass there were no more turns than carry the job
+pub few_passes : (start old : WorldShape) → IsHeld start → (passes : InPasses start old)
+    → (passes.passes + 1) * length start.actors ≤ turns start.lists.job
+few_passes start old held passes =
+    let all = held.rules.count in
+    let few = passes.few in
+    let within : passes.passes ≤ 4 * entries_in start.lists.job = let c = held.counted in omega arith in
+    let bound = passes_bound (length start.actors) passes.passes (4 * entries_in start.lists.job) within in
     let same : length start.actors * (4 * entries_in start.lists.job + 1) ≡ turns start.lists.job =
     ap (λ (n : ℕ). n * (4 * entries_in start.lists.job + 1)) all in
     omega arith

@@ -1,5 +1,5 @@
 -- Passes of one turn for each actor are turns in rotation.
-use Rattle.std.proofs.Common.{◌≡◌, ℕ, zero, suc, ◌+◌, ◌*◌, ◌<◌, ◌%◌, List, [], ◌∷◌, ◌++◌, length, Some}
+use Rattle.std.proofs.Common.{◌≡◌, ◌≤◌, ℕ, zero, suc, ◌+◌, ◌*◌, ◌<◌, ◌%◌, List, [], ◌∷◌, ◌++◌, length, Some}
 use Rattle.std.proofs.Common.{refl, sym, ap, subst, ◌∙◌, arith, ⊎_elim, ◌⊎◌, inl, inr, length-append}
 use Rattle.std.proofs.lemmas.List.FromFn.{length-range_with_len, get_or-range_with_len}
 use Rattle.std.proofs.lemmas.Nat.{mod-mul-add}
@@ -7,6 +7,7 @@ use Rattle.std.proofs.lemmas.Option.{get_or_from_slice_get, slice_get_within}
 use Rattle.std.specs.List.{slice_get, range_with_len}
 use Rattle.evp_core.specs.Held.{HasStopped}
 use Rattle.evp_core.specs.Rotation.{all_numbers, IsRotation, HaveRotated, HasStoppedIn}
+use Rattle.evp_core.specs.Turns.{turns}
 use Rattle.evp_core.specs.WorldShape.{WorldShape}
 use Rattle.evp_core.specs.WorldTurned.{HaveTurned}
 use Rattle.evp_core.proofs.Behind.{have_then, stopped_then}
@@ -35,42 +36,52 @@ goes_round actors passes numbers long rotation place number at =
     is ∙ sym (ap (λ (p : ℕ). p % actors) at-place ∙ mod-mul-add passes actors here.0 under))
     (place_in numbers (range_with_len 0 actors) place number at)
 
--- whole passes were made
-pub record HavePassed (start now : WorldShape) : Type 0 where
-  pub passes : ℕ
+-- so many whole passes were made
+pub record HavePassed (start now : WorldShape) (passes : ℕ) : Type 0 where
   pub numbers : List ℕ
   pub long : length numbers ≡ passes * length start.actors
   pub rotation : IsRotation (length start.actors) numbers
   pub turned : HaveTurned start now numbers
 
-pub none_passed : (world : WorldShape) → HavePassed world world
-none_passed world = record { passes = 0; numbers = []; long = omega arith; rotation = λ place number at. absurd (cc); turned = refl }
+pub none_passed : (world : WorldShape) → HavePassed world world 0
+none_passed world = record { numbers = []; long = omega arith; rotation = λ place number at. absurd (cc); turned = refl }
 
-module _ (start old new : WorldShape) (passed : HavePassed start old) (count : length old.actors ≡ length start.actors) where
+module _ (start old new : WorldShape) (passes : ℕ) (passed : HavePassed start old passes)
+    (count : length old.actors ≡ length start.actors) where
   rotation_on : IsRotation (length start.actors) (passed.numbers ++ all_numbers old)
   rotation_on = subst (λ (n : ℕ). IsRotation (length start.actors) (passed.numbers ++ range_with_len 0 n)) (sym count)
-      (goes_round (length start.actors) passed.passes passed.numbers passed.long passed.rotation)
+      (goes_round (length start.actors) passes passed.numbers passed.long passed.rotation)
 
-  pub one_pass : HaveTurned old new (all_numbers old) → HavePassed start new
+  long_on : length (passed.numbers ++ all_numbers old) ≡ (passes + 1) * length start.actors
+  long_on =
+      let both = length-append passed.numbers (all_numbers old) in
+      let pass = length-range_with_len 0 (length old.actors) in
+      let was = passed.long in
+      let more : (passes + 1) * length start.actors ≡ passes * length start.actors + length start.actors = omega arith in
+      omega arith
+
+  pub one_pass : HaveTurned old new (all_numbers old) → HavePassed start new (passes + 1)
   one_pass turned = record {
-    passes = passed.passes + 1;
     numbers = passed.numbers ++ all_numbers old;
-    long = (
-        let both = length-append passed.numbers (all_numbers old) in
-        let pass = length-range_with_len 0 (length old.actors) in
-        let was = passed.long in
-        let more : (passed.passes + 1) * length start.actors ≡ passed.passes * length start.actors + length start.actors = omega arith in
-        omega arith);
+    long = long_on;
     rotation = rotation_on;
     turned = have_then start old new passed.numbers (all_numbers old) passed.turned turned;
   }
 
-  pub stopped_in : HasStopped old new (all_numbers old) → HasStoppedIn start new
-  stopped_in stopped = record {
+  pub stopped_in : HasStopped old new (all_numbers old) → (passes + 1) * length start.actors ≤ turns start.lists.job
+      → HasStoppedIn start new
+  stopped_in stopped few = record {
     numbers = passed.numbers ++ all_numbers old;
     rotation = rotation_on;
+    few = let long = long_on in omega arith;
     stopped = stopped_then start old new passed.numbers (all_numbers old) passed.turned stopped;
   }
 
-pub rotated : (start now : WorldShape) → HavePassed start now → HaveRotated start now
-rotated start now passed = record { numbers = passed.numbers; rotation = passed.rotation; turned = passed.turned }
+pub rotated : (start now : WorldShape) (passes : ℕ) → HavePassed start now passes → passes * length start.actors ≤ turns start.lists.job
+    → HaveRotated start now
+rotated start now passes passed few = record {
+  numbers = passed.numbers;
+  rotation = passed.rotation;
+  few = let long = passed.long in omega arith;
+  turned = passed.turned;
+}

@@ -1,7 +1,8 @@
 -- Turns in rotation.
-use Rattle.std.specs.Prelude.{◌≡◌, ℕ, ◌%◌, List, length, Some, slice_get}
+use Rattle.std.specs.Prelude.{◌≡◌, ℕ, ◌≤◌, ◌%◌, List, length, Some, slice_get}
 use Rattle.std.specs.List.{range_with_len}
 use Rattle.evp_core.specs.Held.{HasStopped}
+use Rattle.evp_core.specs.Turns.{turns}
 use Rattle.evp_core.specs.WorldShape.{WorldShape}
 use Rattle.evp_core.specs.WorldTurned.{HaveTurned}
 
@@ -14,14 +15,16 @@ abbrev pub IsRotation : ℕ → List ℕ → Type 0
 IsRotation actors numbers =
     (place number : ℕ) → slice_get numbers place ≡ Some number → number ≡ place % actors
 
--- turns were done in rotation, each with memory
+-- turns were done in rotation, each with memory, at most as many as carry the job
 pub record HaveRotated (old new : WorldShape) : Type 0 where
   pub numbers : List ℕ
   pub rotation : IsRotation (length old.actors) numbers
+  pub few : length numbers ≤ turns old.lists.job
   pub turned : HaveTurned old new numbers
 
 -- some first turns of a rotation were done, and the next one found no memory
 pub record HasStoppedIn (old new : WorldShape) : Type 0 where
   pub numbers : List ℕ
   pub rotation : IsRotation (length old.actors) numbers
+  pub few : length numbers ≤ turns old.lists.job
   pub stopped : HasStopped old new numbers

@@ -1,7 +1,7 @@
-use Rattle.std.proofs.Common.{Bool, subst}
+use Rattle.std.proofs.Common.{◌+◌, Bool, subst}
 use Rattle.std.proofs.lemmas.Result.{err_from_is_err_and}
 use Rattle.evp_core.specs.Held.{HasPassed}
-use Rattle.evp_core.proofs.Finish.{passes_on, passes_end}
+use Rattle.evp_core.proofs.Finish.{passes_on, passes_end, few_passes}
 use Rattle.evp_core.proofs.Rounds.{rotated, one_pass, stopped_in}
 use Rattle.evp_core.proofs.world.World.finish.Goals as goal
 
@@ -17,15 +17,21 @@ loop-preserved c =
 
 pub returns-clause-turned : goal.returns-clause-turned
 returns-clause-turned c =
+    let start = c.args.self.now in
+    let old = c.loop.self in
+    let new = c.pass.new.self in
     let passes = c.loop.invariant in
-    rotated c.args.self.now c.pass.new.self
-    (one_pass c.args.self.now c.loop.self c.pass.new.self passes.passed passes.same.count c.in_ok-pass.ensures.turned)
+    rotated start new (passes.passes + 1) (one_pass start old new passes.passes passes.passed passes.same.count c.in_ok-pass.ensures.turned)
+    (few_passes start old c.count.ensures.held passes)
 
 pub returns-in_err-pass-clause-stopped : goal.returns-in_err-pass-clause-stopped
 returns-in_err-pass-clause-stopped c =
+    let start = c.args.self.now in
+    let old = c.loop.self in
     let passes = c.loop.invariant in
     let p = err_from_is_err_and c.from_residual.result c.from_residual.ensures.1 in
-    rw p.1 (stopped_in c.args.self.now c.loop.self c.pass.new.self passes.passed passes.same.count c.in_err-pass.ensures.stopped)
+    rw p.1 (stopped_in start old c.pass.new.self passes.passes passes.passed passes.same.count c.in_err-pass.ensures.stopped
+    (few_passes start old c.count.ensures.held passes))
 
 pub returns-clause-turns : goal.returns-clause-turns
 returns-clause-turns c =

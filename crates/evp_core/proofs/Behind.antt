@@ -1,15 +1,16 @@
 -- Turns behind others: one more, a list of them, and those of the actors in order.
-use Rattle.std.proofs.Common.{◌≡◌, ◌≢◌, ℕ, zero, suc, ◌+◌, ◌<◌, ◌≤◌, List, [], ◌∷◌, ◌++◌, length, take, Some}
+use Rattle.std.proofs.Common.{◌≡◌, ◌≢◌, ℕ, zero, suc, ◌+◌, ◌^◌, ◌<◌, ◌≤◌, List, [], ◌∷◌, ◌++◌, length, take, Some}
 use Rattle.std.proofs.Common.{refl, sym, ap, subst, ◌∙◌, arith}
 use Rattle.std.proofs.Math.Seq.{take-append-add}
 use Rattle.std.proofs.lemmas.List.FromFn.{length-range_with_len, get_or-range_with_len}
 use Rattle.std.proofs.lemmas.Option.{slice_get-get_or}
 use Rattle.std.specs.List.{slice_get, range_with_len}
 use Rattle.evp_stone.specs.declared.turn.Turn.{Turn}
-use Rattle.evp_stone.specs.declared.turn.Turn.TheVariants.{Memory}
+use Rattle.evp_stone.specs.declared.turn.Turn.TheVariants.{Moved, Idle, Blocked, Closed, Memory}
+use Rattle.evp_plan.specs.Counts.{raised}
 use Rattle.evp_core.specs.Held.{HasStopped}
 use Rattle.evp_core.specs.WorldShape.{WorldShape}
-use Rattle.evp_core.specs.WorldTurned.{WorldTurned, HaveTurned}
+use Rattle.evp_core.specs.WorldTurned.{WorldTurned, HaveTurned, done_by, done_after}
 
 -- one turn more
 pub have_more : (old between new : WorldShape) (numbers : List ℕ) (number : ℕ) (turn : Turn) → HaveTurned old between numbers → turn ≢ Memory
@@ -26,15 +27,45 @@ have_then start between end [] back first then = subst (λ (w : WorldShape). Hav
 have_then start between end (number ∷ front) back first then =
     (first.0, first.1, have_then first.0 between end front back first.2 then)
 
+raised_once : (turn : Turn) (done : ℕ) → turn ≢ Memory → done_by turn done ≡ raised done
+raised_once Moved done memory = refl
+raised_once Idle done memory = refl
+raised_once (Blocked target) done memory = refl
+raised_once Closed done memory = refl
+raised_once Memory done memory = absurd (memory refl)
+
+-- each turn with memory counts once, until the count stays
+pub counts_turns : (old new : WorldShape) (numbers : List ℕ) → old.done < 2 ^ 64 → HaveTurned old new numbers
+    → new.done ≡ done_after (length numbers) old.done
+counts_turns old new [] below have =
+    let same = ap (λ (w : WorldShape). w.done) have in
+    let stays : old.done ≡ done_after 0 old.done = grind arith in same ∙ stays
+counts_turns old new (number ∷ numbers) below have =
+    let once : have.0.done ≡ raised old.done = ap (λ (w : WorldShape). w.done) have.1.2.is ∙ raised_once have.1.0 old.done have.1.1 in
+    let under : have.0.done < 2 ^ 64 = grind arith in
+    let then = counts_turns have.0 new numbers under have.2 in
+    let all : done_after (length numbers) (raised old.done) ≡ done_after (length (number ∷ numbers)) old.done = grind arith in
+    then ∙ ap (done_after (length numbers)) once ∙ all
+
+-- a turn that finds no memory doesn't count
+pub stopped_done : (start between end : WorldShape) (numbers : List ℕ) (count number : ℕ) → start.done < 2 ^ 64 → length numbers ≡ count
+    → HaveTurned start between numbers → WorldTurned between end number Memory → end.done ≡ done_after count start.done
+stopped_done start between end numbers count number below long have stopped =
+    ap (λ (w : WorldShape). w.done) stopped.is ∙ counts_turns start between numbers below have
+    ∙ ap (λ (n : ℕ). done_after n start.done) long
+
+then_done : (front count done : ℕ) → done_after count (done_after front done) ≡ done_after (front + count) done
+then_done front count done = grind arith
+
 get_behind : (front back : List ℕ) (k : ℕ) → slice_get (front ++ back) (length front + k) ≡ slice_get back k
 get_behind [] back k = let same : 0 + k ≡ k = omega arith in ap (slice_get back) same
 get_behind (number ∷ front) back k =
     let same : length (number ∷ front) + k ≡ suc (length front + k) = omega arith in
     ap (slice_get (number ∷ front ++ back)) same ∙ get_behind front back k
 
-pub stopped_then : (start between end : WorldShape) (front back : List ℕ) → HaveTurned start between front → HasStopped between end back
+pub stopped_then : (start between end : WorldShape) (front back : List ℕ) → start.done < 2 ^ 64 → HaveTurned start between front → HasStopped between end back
     → HasStopped start end (front ++ back)
-stopped_then start between end front back first then = record {
+stopped_then start between end front back below first then = record {
   count = length front + then.count;
   between = then.between;
   turned = subst (HaveTurned start then.between) (sym (take-append-add front back then.count))
@@ -42,6 +73,8 @@ stopped_then start between end front back first then = record {
   number = then.number;
   there = get_behind front back then.count ∙ then.there;
   stopped = then.stopped;
+  done = then.done ∙ ap (done_after then.count) (counts_turns start between front below first)
+      ∙ then_done (length front) then.count start.done;
 }
 
 -- numbers in order, and one more
@@ -66,9 +99,9 @@ one_further start old new number turn memory have turned =
     (have_more start old new (range_with_len 0 number) number turn have memory turned)
 
 -- or it found no memory
-pub stops_in_order : (start old new : WorldShape) (count number : ℕ) → number < count → HaveTurned start old (range_with_len 0 number)
-    → WorldTurned old new number Memory → HasStopped start new (range_with_len 0 count)
-stops_in_order start old new count number below have turned =
+pub stops_in_order : (start old new : WorldShape) (count number : ℕ) → start.done < 2 ^ 64 → number < count
+    → HaveTurned start old (range_with_len 0 number) → WorldTurned old new number Memory → HasStopped start new (range_with_len 0 count)
+stops_in_order start old new count number few below have turned =
     let long = length-range_with_len 0 count in
     let same : 0 + number ≡ number = omega arith in
     record {
@@ -79,4 +112,5 @@ stops_in_order start old new count number below have turned =
       there = slice_get-get_or (range_with_len 0 count) number 0 (omega arith)
           ∙ ap Some (get_or-range_with_len 0 count number 0 below ∙ same);
       stopped = turned;
+      done = stopped_done start old new (range_with_len 0 number) number number few (length-range_with_len 0 number) have turned;
     }

@@ -1,5 +1,5 @@
 -- A pass of one turn for each actor: one of them moves, or all are closed.
-use Rattle.std.proofs.Common.{◌≡◌, ◌≢◌, ℕ, ◌+◌, ◌<◌, ◌≤◌, Bool, true, false, length, Some, set, refl, sym, ap, subst, ◌∙◌, arith, ⊎_elim}
+use Rattle.std.proofs.Common.{◌^◌, ◌≡◌, ◌≢◌, ℕ, ◌+◌, ◌<◌, ◌≤◌, Bool, true, false, length, Some, set, refl, sym, ap, subst, ◌∙◌, arith, ⊎_elim}
 use Rattle.std.proofs.Math.ListN.{length-set}
 use Rattle.std.proofs.lemmas.Bool.Decides.{eqb_tells}
 use Rattle.std.proofs.lemmas.Option.{same_Some}
@@ -165,10 +165,10 @@ pass_stops start old new number moved pass turned held below = (
   let done = done_on start old new number Memory turned pass.done in omega arith,
 )
 
-pub stops_so : (start old new : WorldShape) (number : ℕ) (moved : Bool) → InPass start old number moved → WorldTurned old new number Memory
+pub stops_so : (start old new : WorldShape) (number : ℕ) (moved : Bool) → start.done < 2 ^ 64 → InPass start old number moved → WorldTurned old new number Memory
     → number < length start.actors → HasStopped start new (all_numbers start)
-stops_so start old new number moved pass turned below =
-    stops_in_order start old new (length start.actors) number below pass.turned turned
+stops_so start old new number moved few pass turned below =
+    stops_in_order start old new (length start.actors) number few below pass.turned turned
 
 -- the end of a pass
 pub pass_ends : (start now : WorldShape) (moved : Bool) → InPass start now (length start.actors) moved → HasPassed start now moved

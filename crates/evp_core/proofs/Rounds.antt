@@ -1,5 +1,5 @@
 -- Passes of one turn for each actor are turns in rotation.
-use Rattle.std.proofs.Common.{◌≡◌, ◌≤◌, ℕ, zero, suc, ◌+◌, ◌*◌, ◌<◌, ◌%◌, List, [], ◌∷◌, ◌++◌, length, Some}
+use Rattle.std.proofs.Common.{◌^◌, ◌≡◌, ◌≤◌, ℕ, zero, suc, ◌+◌, ◌*◌, ◌<◌, ◌%◌, List, [], ◌∷◌, ◌++◌, length, Some}
 use Rattle.std.proofs.Common.{refl, sym, ap, subst, ◌∙◌, arith, ⊎_elim, ◌⊎◌, inl, inr, length-append}
 use Rattle.std.proofs.lemmas.List.FromFn.{length-range_with_len, get_or-range_with_len}
 use Rattle.std.proofs.lemmas.Nat.{mod-mul-add}
@@ -68,13 +68,13 @@ module _ (start old new : WorldShape) (passes : ℕ) (passed : HavePassed start 
     turned = have_then start old new passed.numbers (all_numbers old) passed.turned turned;
   }
 
-  pub stopped_in : HasStopped old new (all_numbers old) → (passes + 1) * length start.actors ≤ turns start.lists.job
+  pub stopped_in : start.done < 2 ^ 64 → HasStopped old new (all_numbers old) → (passes + 1) * length start.actors ≤ turns start.lists.job
       → HasStoppedIn start new
-  stopped_in stopped few = record {
+  stopped_in below stopped few = record {
     numbers = passed.numbers ++ all_numbers old;
     rotation = rotation_on;
     few = let long = long_on in omega arith;
-    stopped = stopped_then start old new passed.numbers (all_numbers old) passed.turned stopped;
+    stopped = stopped_then start old new passed.numbers (all_numbers old) below passed.turned stopped;
   }
 
 pub rotated : (start now : WorldShape) (passes : ℕ) → HavePassed start now passes → passes * length start.actors ≤ turns start.lists.job

@@ -11,7 +11,7 @@ use Rattle.evp_core.specs.Lists.{ListsShape}
 use Rattle.evp_core.specs.Moving.{AreClosed}
 use Rattle.evp_core.specs.Progress.{IsCounted, turns_left}
 use Rattle.evp_core.specs.WorldShape.{WorldShape, HasRules}
-use Rattle.evp_core.specs.WorldTurned.{WorldTurned, HaveTurned}
+use Rattle.evp_core.specs.WorldTurned.{WorldTurned, HaveTurned, done_after}
 use Rattle.evp_stone.specs.Actor.{ActorShape, HasActed}
 use Rattle.evp_stone.specs.Job.{IsJob}
 use Rattle.evp_stone.specs.JobShape.{JobShape}
@@ -36,7 +36,7 @@ Steps old new number (Ok false) =
     (turn : Turn) × (turn ≢ Moved) × (turn ≢ Memory) × WorldTurned old new number turn
 Steps old new number (Err memory) = WorldTurned old new number Memory
 
--- the first so many of the turns were done, and the next one found no memory
+-- the first so many of the turns were done, and the next one found no memory and doesn't count
 pub record HasStopped (old new : WorldShape) (numbers : List ℕ) : Type 0 where
   pub count : ℕ
   pub between : WorldShape
@@ -44,6 +44,7 @@ pub record HasStopped (old new : WorldShape) (numbers : List ℕ) : Type 0 where
   pub number : ℕ
   pub there : slice_get numbers count ≡ Some number
   pub stopped : WorldTurned between new number Memory
+  pub done : new.done ≡ done_after count old.done
 
 -- it is of the same job, with as many actors
 pub record IsOfSame (old new : WorldShape) : Type 0 where

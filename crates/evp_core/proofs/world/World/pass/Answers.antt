@@ -56,5 +56,6 @@ returns-in_err-step-clause-stopped c =
     let below : c.loop-actor.actor < length c.args.self.now.actors =
     (let count = c.count-actor-end.ensures.count in let within = c.loop-actor-test.true in omega arith) in
     let p = err_from_is_err_and c.from_residual.result c.from_residual.ensures.1 in
-    rw p.1 (stops_so c.args.self.now c.loop-actor.self c.step.new.self c.loop-actor.actor c.loop-actor.moved c.loop-actor.invariant
+    rw p.1 (stops_so c.args.self.now c.loop-actor.self c.step.new.self c.loop-actor.actor c.loop-actor.moved
+    c.count-actor-end.ensures.done c.loop-actor.invariant
     c.in_err-step.ensures.steps below)

@@ -165,8 +165,8 @@ pass_stops start old new number moved pass turned held below = (
   let done = done_on start old new number Memory turned pass.done in omega arith,
 )
 
-pub stops_so : (start old new : WorldShape) (number : ℕ) (moved : Bool) → start.done < 2 ^ 64 → InPass start old number moved → WorldTurned old new number Memory
-    → number < length start.actors → HasStopped start new (all_numbers start)
+pub stops_so : (start old new : WorldShape) (number : ℕ) (moved : Bool) → start.done < 2 ^ 64 → InPass start old number moved
+    → WorldTurned old new number Memory → number < length start.actors → HasStopped start new (all_numbers start)
 stops_so start old new number moved few pass turned below =
     stops_in_order start old new (length start.actors) number few below pass.turned turned
 

@@ -58,14 +58,12 @@ const SPLIT: &str =
 const TWICE: &str =
     "[{\"kind\":\"split\",\"targets\":[1,1]},{\"kind\":\"terminal\",\"format\":\"q\"}]";
 
-const DIAMOND: &str =
-    "[{\"kind\":\"split\",\"targets\":[1,2]},\
+const DIAMOND: &str = "[{\"kind\":\"split\",\"targets\":[1,2]},\
     {\"kind\":\"filter\",\"format\":\"q\",\"expr\":\"1\",\"target\":3},\
     {\"kind\":\"filter\",\"format\":\"q\",\"expr\":\"1\",\"target\":3},\
     {\"kind\":\"terminal\",\"format\":\"q\"}]";
 
-const QUOTIENT: &str =
-    "[{\"kind\":\"filter\",\"format\":\"q\",\"expr\":\"x/y > 1\",\"target\":1},\
+const QUOTIENT: &str = "[{\"kind\":\"filter\",\"format\":\"q\",\"expr\":\"x/y > 1\",\"target\":1},\
     {\"kind\":\"terminal\",\"format\":\"q\"}]";
 
 // A job by its document's parts and its source's file, with its report.

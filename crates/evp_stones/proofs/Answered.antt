@@ -8,11 +8,12 @@ use Rattle.evp_depot.specs.Files.{Files}
 use Rattle.evp_depot.specs.Put.{AppendsPart, Puts}
 use Rattle.evp_stones.specs.Answer.{Answers, Reply, IsReply, IsReadBy, Told, Refuses}
 use Rattle.evp_stones.specs.declared.refusal.Refusal.{Refusal}
-use Rattle.evp_stones.specs.declared.refusal.Refusal.TheVariants.{Words, Absent, Read, TooLong, NotJson, Job, Data, Memory}
+use Rattle.evp_stones.specs.declared.refusal.Refusal.TheVariants.{Words, Absent, Read, TooLong, NotJson, Job, Data, Order, Memory}
 use Rattle.evp_stones.specs.Outcome.{WroteLine}
 use Rattle.evp_stones.specs.Refusals.{refusal_line, refusal_status}
 use Rattle.evp_stones.specs.Steps.{Works, IsWords, IsAbsent, IsFailed, Settles}
-use Rattle.evp_stones.specs.Words.{Line, IsLine, IsRunLine, line_of}
+use Rattle.evp_stones.specs.Words.{Line}
+use Rattle.evp_stones.proofs.Joined.{starved}
 
 -- a line was put, or a part of it
 pub line_told : {S T E : Type 0} (faults_of : S → ℕ) (put : S → Option (List ℕ)) (old new : S) (refusal : Refusal) (result : Result T E)
@@ -20,23 +21,6 @@ pub line_told : {S T E : Type 0} (faults_of : S → ℕ) (put : S → Option (Li
     → Told (faults_of old) (faults_of new) (put old) (put new) (Err refusal) (refusal_status refusal)
 line_told faults_of put old new refusal (Ok x) puts = (refl, inl puts.all)
 line_told faults_of put old new refusal (Err e) puts = (refl, inr (puts.failed, puts.part))
-
--- want of memory may cut off any work
-starved : {D X : Type 0} (held : D → Option Files) (misses faults_of : D → ℕ) (old new : D)
-    (says : Files → Result X Refusal → Type 0) (reads : Files → List ℕ → Type 0) (answer : Result X Refusal)
-    → Works held misses faults_of old new says reads answer → Works held misses faults_of old new says reads (Err Memory)
-starved held misses faults_of old new says reads answer works = record {
-  on_line = λ e. e;
-  misses_stay = works.misses_stay;
-  faults_stay = works.faults_stay;
-  still_held = works.still_held;
-  missed = λ e. absurd e;
-  failed = λ e. absurd e;
-  told = told_starved (held old);
-} where
-  told_starved : (told : Option Files) → IfSome told (λ files. Settles (says files) (reads files) (Err Memory))
-  told_starved None = tt
-  told_starved (Some files) = tt
 
 -- a line's refusal, which was written
 pub refused_told : {D K : Type 0} (held : D → Option Files) (misses faults_of : D → ℕ) (sink_faults : K → ℕ)
@@ -53,7 +37,7 @@ refused_told held misses faults_of sink_faults put asked line depot depot' sink 
   by : (refused : Refusal) → (refused ≡ refusal) ⊎ (refused ≡ Memory)
       → Works held misses faults_of depot depot' (IsReply asked) (IsReadBy asked) (Err refused)
   by refused (inl same) = rw same works
-  by refused (inr none) = rw none (starved held misses faults_of depot depot' (IsReply asked) (IsReadBy asked) (Err refusal) works)
+  by refused (inr none) = rw none (starved held misses faults_of depot depot' (IsReply asked) (IsReply asked) (IsReadBy asked) (IsReadBy asked) (Err refusal) works)
 
 -- a line's output, which was written
 pub output_told : {D K : Type 0} (held : D → Option Files) (misses faults_of : D → ℕ) (sink_faults : K → ℕ)
@@ -107,6 +91,7 @@ not_words (Err (TooLong name)) before after old new status kind told e = absurd 
 not_words (Err NotJson) before after old new status kind told e = absurd (omega (arith, e, told.0))
 not_words (Err (Job fault)) before after old new status kind told e = absurd (omega (arith, e, told.0))
 not_words (Err (Data name fault)) before after old new status kind told e = absurd (omega (arith, e, told.0))
+not_words (Err (Order name at)) before after old new status kind told e = absurd (omega (arith, e, told.0))
 not_words (Err Memory) before after old new status kind told e = absurd (omega (arith, e, told.0))
 
 are_words : (reply : Reply) (before after : ℕ) (old new : Option (List ℕ)) (status : ℕ) → reply ≡ Err Words

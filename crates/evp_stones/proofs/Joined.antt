@@ -3,7 +3,7 @@ use Rattle.std.proofs.Common.{◌≡◌, ℕ, ◌≤◌, List, Option, Some, Non
 use Rattle.evp_depot.specs.Counts.{Rose, Rose-after}
 use Rattle.evp_depot.specs.Files.{Files}
 use Rattle.evp_stones.specs.declared.refusal.Refusal.{Refusal}
-use Rattle.evp_stones.specs.declared.refusal.Refusal.TheVariants.{Words, Absent, Read, TooLong, NotJson, Job, Data, Memory}
+use Rattle.evp_stones.specs.declared.refusal.Refusal.TheVariants.{Words, Absent, Read, TooLong, NotJson, Job, Data, Order, Memory}
 use Rattle.evp_stones.specs.Steps.{Works, Settles, IsWords, IsAbsent, IsFailed}
 
 -- ---- an answer that is settled by what is said of it, and by more
@@ -18,6 +18,7 @@ settled_as says says' reads reads' (Err (TooLong name)) on more settled = on (Er
 settled_as says says' reads reads' (Err NotJson) on more settled = on (Err NotJson) settled
 settled_as says says' reads reads' (Err (Job fault)) on more settled = on (Err (Job fault)) settled
 settled_as says says' reads reads' (Err (Data name fault)) on more settled = on (Err (Data name fault)) settled
+settled_as says says' reads reads' (Err (Order name at)) on more settled = on (Err (Order name at)) settled
 settled_as says says' reads reads' (Err Memory) on more settled = tt
 
 pub works_as : {D X : Type 0} (held : D → Option Files) (misses faults_of : D → ℕ) (old new : D)
@@ -49,6 +50,7 @@ same_refusal X Y (TooLong name) = (λ e. e, λ e. e, λ e. e)
 same_refusal X Y NotJson = (λ e. e, λ e. e, λ e. e)
 same_refusal X Y (Job fault) = (λ e. e, λ e. e, λ e. e)
 same_refusal X Y (Data name fault) = (λ e. e, λ e. e, λ e. e)
+same_refusal X Y (Order name at) = (λ e. e, λ e. e, λ e. e)
 same_refusal X Y Memory = (λ e. e, λ e. e, λ e. e)
 
 settled_cut : {X Y : Type 0} (says : Result X Refusal → Type 0) (says' : Result Y Refusal → Type 0) (reads reads' : List ℕ → Type 0)
@@ -61,6 +63,7 @@ settled_cut says says' reads reads' (TooLong name) on more settled = on (TooLong
 settled_cut says says' reads reads' NotJson on more settled = on NotJson settled
 settled_cut says says' reads reads' (Job fault) on more settled = on (Job fault) settled
 settled_cut says says' reads reads' (Data name fault) on more settled = on (Data name fault) settled
+settled_cut says says' reads reads' (Order name at) on more settled = on (Order name at) settled
 settled_cut says says' reads reads' Memory on more settled = tt
 
 pub works_cut : {D X Y : Type 0} (held : D → Option Files) (misses faults_of : D → ℕ) (old new : D)
@@ -111,3 +114,21 @@ works_both held misses faults_of old mid new before says says' reads₀ reads re
   told_both None later still done settled = tt
   told_both (Some files) later still done settled =
       settled_as (says files) (says' files) (reads files) (reads' files) answer (on files done) (more files done) (rw still at settled)
+
+-- ---- want of memory may cut off any work
+pub starved : {D X Y : Type 0} (held : D → Option Files) (misses faults_of : D → ℕ) (old new : D)
+    (says : Files → Result X Refusal → Type 0) (says' : Files → Result Y Refusal → Type 0) (reads reads' : Files → List ℕ → Type 0)
+    (answer : Result X Refusal) → Works held misses faults_of old new says reads answer
+    → Works held misses faults_of old new says' reads' (Err Memory)
+starved held misses faults_of old new says says' reads reads' answer works = record {
+  on_line = λ e. e;
+  misses_stay = works.misses_stay;
+  faults_stay = works.faults_stay;
+  still_held = works.still_held;
+  missed = λ e. absurd e;
+  failed = λ e. absurd e;
+  told = told_starved (held old);
+} where
+  told_starved : (told : Option Files) → IfSome told (λ files. Settles (says' files) (reads' files) (Err Memory))
+  told_starved None = tt
+  told_starved (Some files) = tt

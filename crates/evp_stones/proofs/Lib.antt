@@ -1,20 +1,20 @@
-mod ListFacts
-mod NameFacts
-mod FileFacts
-mod ReportFacts
-mod QuotedFacts
-mod AnswerFacts
-mod OutcomeFacts
-mod Examples
 pub mod Numbered
 pub mod Answered
+pub mod Joined
 pub mod Looked
 pub mod WroteText
 pub mod Mapped
 pub mod Checked
 pub mod Sources
 mod LineExamples
-pub mod Joined
+pub mod RecordFiles
+pub mod WholeJobs
+pub mod Runs
+pub mod DecimalNumbers
+pub mod Worlds
+pub mod Lines
+pub mod Turns
+pub mod Pushed
 pub mod Converts
 pub mod Founds
 pub mod Within

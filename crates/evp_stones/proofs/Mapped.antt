@@ -2,7 +2,7 @@
 use Rattle.std.proofs.Common.{◌≡◌, ℕ, List, Option, Some, None, IfSome, Result, Ok, Err}
 use Rattle.evp_depot.specs.Files.{Files}
 use Rattle.evp_stones.specs.declared.refusal.Refusal.{Refusal}
-use Rattle.evp_stones.specs.declared.refusal.Refusal.TheVariants.{Words, Absent, Read, TooLong, NotJson, Job, Data, Memory}
+use Rattle.evp_stones.specs.declared.refusal.Refusal.TheVariants.{Words, Absent, Read, TooLong, NotJson, Job, Data, Order, Memory}
 use Rattle.evp_stones.specs.Steps.{Works, Settles, seen_by, IsWords, IsAbsent, IsFailed}
 
 settled_on : {X Y : Type 0} (f : X → Y) (says : Result X Refusal → Type 0) (says' : Result Y Refusal → Type 0) (reads reads' : List ℕ → Type 0)
@@ -16,6 +16,7 @@ settled_on f says says' reads reads' (Err (TooLong name)) on more settled = on (
 settled_on f says says' reads reads' (Err NotJson) on more settled = on (Err NotJson) settled
 settled_on f says says' reads reads' (Err (Job fault)) on more settled = on (Err (Job fault)) settled
 settled_on f says says' reads reads' (Err (Data name fault)) on more settled = on (Err (Data name fault)) settled
+settled_on f says says' reads reads' (Err (Order name at)) on more settled = on (Err (Order name at)) settled
 settled_on f says says' reads reads' (Err Memory) on more settled = tt
 
 -- of which kind an answer is doesn't depend on how it is seen
@@ -29,6 +30,7 @@ same_kind f (Err (TooLong name)) = (λ e. e, λ e. e, λ e. e)
 same_kind f (Err NotJson) = (λ e. e, λ e. e, λ e. e)
 same_kind f (Err (Job fault)) = (λ e. e, λ e. e, λ e. e)
 same_kind f (Err (Data name fault)) = (λ e. e, λ e. e, λ e. e)
+same_kind f (Err (Order name at)) = (λ e. e, λ e. e, λ e. e)
 same_kind f (Err Memory) = (λ e. e, λ e. e, λ e. e)
 
 -- what is said of an answer, said of how it is seen

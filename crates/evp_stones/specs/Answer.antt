@@ -11,9 +11,11 @@ use Rattle.evp_stones.specs.Convert.{IsConvert, IsReadFor}
 use Rattle.evp_stones.specs.Fetching.{IsHeld}
 use Rattle.evp_stones.specs.Outcome.{WroteLine}
 use Rattle.evp_stones.specs.Refusals.{refusal_line, refusal_status}
+use Rattle.evp_stones.specs.Run.{IsRun, IsWalk, IsWalkRead}
 use Rattle.evp_stones.specs.Show.{show_answer}
 use Rattle.evp_stones.specs.Steps.{Works}
-use Rattle.evp_stones.specs.Words.{Line, show, check, convert}
+use Rattle.evp_stones.specs.WholeJob.{IsJobRead}
+use Rattle.evp_stones.specs.Words.{Line, show, check, convert, run, walk}
 
 -- the output of a line, or the first refusal
 abbrev pub Reply : Type 0
@@ -34,12 +36,16 @@ abbrev pub IsReply : Line → Files → Reply → Type 0
 IsReply (show name) files reply = reply ≡ show_answer files name
 IsReply (check name) files reply = IsCheck name files reply
 IsReply (convert job format file) files reply = IsConvert job format file files reply
+IsReply (run name workers) files reply = IsRun name files reply
+IsReply (walk name order) files reply = IsWalk name order files reply
 
 -- a read under the name may be one that the line's answer waits for
 abbrev pub IsReadBy : Line → Files → List ℕ → Type 0
 IsReadBy (show file) files name = IsHeld file files name
 IsReadBy (check job) files name = IsHeld job files name
 IsReadBy (convert job format file) files name = IsReadFor job format file files name
+IsReadBy (run job workers) files name = IsJobRead job files name
+IsReadBy (walk job order) files name = IsWalkRead job order files name
 
 -- the status, and what was put
 abbrev pub Told : ℕ → ℕ → Option (List ℕ) → Option (List ℕ) → Reply → ℕ → Type 0

@@ -1,12 +1,6 @@
+pub mod DecimalNumber
 pub mod Words
-pub mod FirstJob
-pub mod FirstFile
-pub mod FirstRun
-pub mod Report
-pub mod Carried
-pub mod Lines
 pub mod Outcome
-pub mod Shown
 pub mod Numbered
 pub mod Refusals
 pub mod Steps
@@ -18,6 +12,11 @@ pub mod Outcomes
 pub mod Founds
 pub mod Convert
 pub mod Converted
+pub mod RecordFiles
+pub mod WholeJob
+pub mod Order
+pub mod Run
 pub mod ShownText
+pub mod ListingText
 pub mod OutputText
 pub mod Answer

@@ -6,7 +6,7 @@ use Rattle.evp_job.specs.FaultText.{job_fault_text}
 use Rattle.evp_report.specs.Report.{counted, line_end}
 use Rattle.evp_stones.specs.declared.refusal.Refusal.{Refusal}
 use Rattle.evp_stones.specs.declared.refusal.Refusal.TheVariants.{Words, Absent, Read, TooLong}
-use Rattle.evp_stones.specs.declared.refusal.Refusal.TheVariants.{NotJson, Job, Data, Memory}
+use Rattle.evp_stones.specs.declared.refusal.Refusal.TheVariants.{NotJson, Job, Data, Order, Memory}
 
 -- the text of the fault, where there is one
 abbrev pub cause_text : Refusal → List ℕ
@@ -14,7 +14,7 @@ cause_text (Job fault) = job_fault_text fault
 cause_text (Data name fault) = file_fault_text fault
 cause_text other = []
 
--- a record file has a fault of this text at this offset
+-- a file has a fault of this text at this offset
 abbrev pub data_text : List ℕ → ℕ → List ℕ → List ℕ
 data_text name at cause = codes "data " ++ quoted name ++ counted (codes " at ") at ++ codes " " ++ cause
 
@@ -26,6 +26,7 @@ refusal_text (TooLong name) = codes "too long " ++ quoted name
 refusal_text NotJson = codes "not json"
 refusal_text (Job fault) = codes "job " ++ job_fault_text fault
 refusal_text (Data name fault) = data_text name (fault_offset fault) (file_fault_text fault)
+refusal_text (Order name at) = data_text name at (codes "order")
 refusal_text Memory = codes "memory"
 
 abbrev pub refusal_line : Refusal → List ℕ
@@ -40,4 +41,5 @@ refusal_status (TooLong name) = 4
 refusal_status NotJson = 5
 refusal_status (Job fault) = 6
 refusal_status (Data name fault) = 7
+refusal_status (Order name at) = 7
 refusal_status Memory = 9

@@ -4,22 +4,25 @@ ghost use Rattle.evp_depot.specs.Put.{Puts};
 ghost use Rattle.evp_report.specs.Passing.{Passes};
 ghost use Rattle.evp_stones.specs.declared.refusal.Refusal.TheVariants as refusal;
 ghost use Rattle.evp_stones.specs.Answer.{Answers, IsReadBy, IsReply, Told};
+ghost use Rattle.evp_stones.specs.ListingText.{listing_text};
 ghost use Rattle.evp_stones.specs.OutputText.{output_text};
 ghost use Rattle.evp_stones.specs.Steps.{Works, seen_by};
 ghost use Rattle.evp_stones.specs.Words.{line_of, seen};
 
 use crate::check::{check, put_checked};
 use crate::convert::convert;
+use crate::listing::Listing;
 use crate::output::Output;
 use crate::refusal::Refusal;
+use crate::run::{run, walk};
 use crate::show::show;
 use crate::words::{Line, line_of};
 use evp_depot::{Depot, PutFault, Sink};
 use evp_report::Pieces;
 use std::alloc::Global;
 
-/// Does what a line asks for that needs no workers, and answers the program's status. The words of
-/// every other line are refused.
+/// Does what a line asks for without workers, and answers the program's status. A job is carried on
+/// this thread, however many workers the line asks for. Words that are no line are refused.
 ///
 /// Nothing is written before all is worked out. Then the whole answer goes out, in pieces of some
 /// kilobytes, or the line of a refusal; a front of it where the sink fails. Writing takes no memory.
@@ -54,11 +57,13 @@ fn work<D: Depot>(alloc: Global, line: Line<'_>, depot: &mut D) -> Result<Output
         (IsReadBy (seen line.entry)) (seen_by output_text result) }
 {
     match line {
-        Line::Show(name) => Ok(Output::Shown(show(alloc, depot, name)?)),
-        Line::Check(name) => Ok(Output::Checked(check(alloc, depot, name)?)),
-        Line::Convert(job, format, file) => Ok(Output::Converted(convert(
+        Line::Show(name) => Ok(Output::Listed(Listing::Shown(show(alloc, depot, name)?))),
+        Line::Check(name) => Ok(Output::Listed(Listing::Checked(check(alloc, depot, name)?))),
+        Line::Convert(job, format, file) => Ok(Output::Listed(Listing::Converted(convert(
             alloc, depot, job, format, file,
-        )?)),
+        )?))),
+        Line::Run(name, _) => Ok(Output::Reported(run(alloc, depot, name)?)),
+        Line::Walk(name, order) => Ok(Output::Reported(walk(alloc, depot, name, order)?)),
     }
 }
 
@@ -66,18 +71,27 @@ fn work<D: Depot>(alloc: Global, line: Line<'_>, depot: &mut D) -> Result<Output
 fn write<K: Sink>(output: &Output, sink: &mut K) -> Result<(), PutFault>
     ensures { Puts K.faults K.put sink.old sink.new (output_text output.now) result }
 {
+    match output {
+        Output::Listed(listing) => write_listing(listing, sink),
+        Output::Reported(carried) => carried.write(sink),
+    }
+}
+
+fn write_listing<K: Sink>(listing: &Listing, sink: &mut K) -> Result<(), PutFault>
+    ensures { Puts K.faults K.put sink.old sink.new (listing_text listing.now) result }
+{
     let mut pieces = Pieces::new();
-    put(output, &mut pieces, sink)?;
+    put(listing, &mut pieces, sink)?;
     pieces.flush(sink)
 }
 
-fn put<K: Sink>(output: &Output, pieces: &mut Pieces, sink: &mut K) -> Result<(), PutFault>
+fn put<K: Sink>(listing: &Listing, pieces: &mut Pieces, sink: &mut K) -> Result<(), PutFault>
     ensures { Passes K.faults K.put sink.old sink.new pieces.old pieces.new
-        (output_text output.now) result }
+        (listing_text listing.now) result }
 {
-    match output {
-        Output::Shown(file) => file.put(pieces, sink),
-        Output::Checked(text) => put_checked(pieces, sink, text),
-        Output::Converted(made) => made.put(pieces, sink),
+    match listing {
+        Listing::Shown(file) => file.put(pieces, sink),
+        Listing::Checked(text) => put_checked(pieces, sink, text),
+        Listing::Converted(made) => made.put(pieces, sink),
     }
 }

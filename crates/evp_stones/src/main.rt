@@ -2,17 +2,23 @@
 #![tactic(auto)]
 
 mod alone;
+mod carried;
 mod check;
 mod convert;
+mod decimal_number;
 mod fetching;
 mod file_name;
-mod first_form;
 mod gate;
 mod job;
+mod listing;
+mod order;
 mod output;
+mod record_files;
 mod refusal;
+mod run;
 mod show;
 mod top;
+mod whole_job;
 mod words;
 
 pub use alone::alone;

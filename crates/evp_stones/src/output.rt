@@ -1,16 +1,13 @@
 //! What a line writes.
 
-use crate::convert::Converted;
-use crate::show::Shown;
-use evp_job::JobText;
+use crate::carried::Carried;
+use crate::listing::Listing;
 
 /// What was worked out for a line, and is to be written.
 #[derive(Drop)]
 pub enum Output {
-    /// A record file.
-    Shown(Shown),
-    /// A job by its document.
-    Checked(JobText),
-    /// Records that were converted.
-    Converted(Converted),
+    /// A file or a document.
+    Listed(Listing),
+    /// A job that was carried.
+    Reported(Carried),
 }

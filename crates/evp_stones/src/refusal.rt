@@ -37,8 +37,10 @@ pub enum Refusal {
     NotJson,
     /// The job's document has this fault, which isn't want of memory.
     Job(JobFault),
-    /// The record file of this name has this fault, which isn't want of memory.
+    /// The file of this name has this fault, which isn't want of memory.
     Data(FileName, FileFault),
+    /// In the file of this name, which lists turns, the line at this place isn't an actor's number.
+    Order(FileName, u32),
     /// There was no memory.
     Memory,
 }
@@ -77,7 +79,7 @@ impl Refusal {
             Refusal::TooLong(_) => 4,
             Refusal::NotJson => 5,
             Refusal::Job(_) => 6,
-            Refusal::Data(_, _) => 7,
+            Refusal::Data(_, _) | Refusal::Order(_, _) => 7,
             Refusal::Memory => 9,
         }
     }
@@ -151,6 +153,7 @@ impl Refusal {
             Refusal::NotJson => pieces.put(sink, b"not json"),
             Refusal::Job(_) => put_job(pieces, sink, cause),
             Refusal::Data(name, fault) => put_data(pieces, sink, name, fault.at(), cause),
+            Refusal::Order(name, at) => put_data(pieces, sink, name, *at, "order"),
             Refusal::Memory => pieces.put(sink, b"memory"),
         }
     }
@@ -187,7 +190,7 @@ fn put_job<K: Sink>(pieces: &mut Pieces, sink: &mut K, cause: &str) -> Result<()
     pieces.put(sink, cause.as_bytes())
 }
 
-// The record file of this name has a fault of this text at this offset.
+// The file of this name has a fault of this text at this offset.
 fn put_data<K: Sink>(
     pieces: &mut Pieces,
     sink: &mut K,

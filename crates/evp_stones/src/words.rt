@@ -1,9 +1,11 @@
 //! The words of a command line.
-ghost use Rattle.std.specs.Prelude.{◌≡◌, map, string_bytes, option_map, IfSome, IsNone};
-ghost use Rattle.evp_stones.specs.Words.{IsRun, IsRunLine, line_of, line_of_four};
-ghost use Rattle.evp_stones.specs.Words.{line_of_two, seen};
+ghost use Rattle.std.specs.Prelude.{◌≡◌, map, string_bytes, option_map};
+ghost use Rattle.evp_stones.specs.Words.{line_of, line_of_four, line_of_three, line_of_two, run_by};
+ghost use Rattle.evp_stones.specs.Words.{seen};
 
-/// A line that is done without workers.
+use crate::decimal_number::number_in;
+
+/// A line: what is to be done, and by which names.
 #[derive(Clone, Copy, Debug)]
 pub enum Line<'a> {
     /// `show FILE`
@@ -12,14 +14,19 @@ pub enum Line<'a> {
     Check(&'a str),
     /// `convert JOB FORMAT FILE`
     Convert(&'a str, &'a str, &'a str),
+    /// `run JOB N`
+    Run(&'a str, u32),
+    /// `walk JOB ORDER`
+    Walk(&'a str, &'a str),
 }
 
-/// The line that the words are, or None where they are no line that is done without workers.
+/// The line that the words are, or None where they are none.
 pub fn line_of(words: &[String]) -> Option<Line<'_>>
     ensures { option_map seen result ≡ line_of (map string_bytes words.now) }
 {
     match words {
         [word, name] => line_of_two(word.as_str(), name.as_str()),
+        [word, job, last] => line_of_three(word.as_str(), job.as_str(), last.as_str()),
         [word, job, format, file] => {
             line_of_four(word.as_str(), job.as_str(), format.as_str(), file.as_str())
         }
@@ -48,15 +55,24 @@ fn line_of_four<'a>(word: &str, job: &'a str, format: &'a str, file: &'a str) ->
     None
 }
 
-/// The job's name in the line `run JOB 1`, or None where the words aren't such a line.
-pub fn job_name(words: &[String]) -> Option<&str>
-    ensures run { IfSome result (λ name. IsRun (map string_bytes words.now) name.now) }
-    ensures none { IsNone result → ¬ IsRunLine (map string_bytes words.now) }
+fn line_of_three<'a>(word: &str, job: &'a str, last: &'a str) -> Option<Line<'a>>
+    ensures { option_map seen result ≡ line_of_three word.now job.now last.now }
 {
-    match words {
-        [run, job, workers] if run.as_str() == "run" && workers.as_str() == "1" => {
-            Some(job.as_str())
-        }
+    if word == "run" {
+        return run_by(job, number_in(65, last.as_bytes()));
+    }
+    if word == "walk" {
+        return Some(Line::Walk(job, last));
+    }
+    None
+}
+
+// By 1 to 64 workers.
+fn run_by<'a>(job: &'a str, workers: Option<u32>) -> Option<Line<'a>>
+    ensures { option_map seen result ≡ run_by job.now workers }
+{
+    match workers {
+        Some(workers) if workers > 0 => Some(Line::Run(job, workers)),
         _ => None,
     }
 }

@@ -1,6 +1,6 @@
 -- How the answer to a line comes together.
-use Rattle.std.proofs.Common.{◌≡◌, ◌≢◌, ◌⊎◌, ◌↔◌, inl, inr, ℕ, List, Option, Some, None, IfSome, IfNone, IsSome, Result, Ok, Err}
-use Rattle.std.proofs.Common.{OnOk, OnErr, refl, sym, ap, ◌∙◌, subst, arith}
+use Rattle.std.proofs.Common.{◌≡◌, ◌≢◌, ◌⊎◌, ◌↔◌, inl, inr, ℕ, List, Option, Some, None, IsSome, Result, Ok, Err}
+use Rattle.std.proofs.Common.{refl, subst, arith}
 use Rattle.std.proofs.lemmas.Bool.{false≢true}
 use Rattle.std.specs.Io.KnownBytes.{Appends}
 use Rattle.evp_depot.specs.Counts.{Rose}
@@ -9,9 +9,8 @@ use Rattle.evp_depot.specs.Put.{AppendsPart, Puts}
 use Rattle.evp_stones.specs.Answer.{Answers, Reply, IsReply, IsReadBy, Told, Refuses}
 use Rattle.evp_stones.specs.declared.refusal.Refusal.{Refusal}
 use Rattle.evp_stones.specs.declared.refusal.Refusal.TheVariants.{Words, Absent, Read, TooLong, NotJson, Job, Data, Order, Memory}
-use Rattle.evp_stones.specs.Outcome.{WroteLine}
 use Rattle.evp_stones.specs.Refusals.{refusal_line, refusal_status}
-use Rattle.evp_stones.specs.Steps.{Works, IsWords, IsAbsent, IsFailed, Settles}
+use Rattle.evp_stones.specs.Steps.{Works, IsWords}
 use Rattle.evp_stones.specs.Words.{Line}
 use Rattle.evp_stones.proofs.Joined.{starved}
 

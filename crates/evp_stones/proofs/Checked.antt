@@ -2,7 +2,6 @@
 use Rattle.std.proofs.Common.{◌≡◌, ℕ, List, Option, Result, Ok, Err, refl}
 use Rattle.evp_depot.specs.Files.{Files}
 use Rattle.evp_job.specs.declared.job_text.JobText.{JobText}
-use Rattle.evp_job.specs.TextShape.{TextShape}
 use Rattle.evp_job.specs.TextView.{text_of}
 use Rattle.evp_stones.specs.declared.refusal.Refusal.{Refusal}
 use Rattle.evp_stones.specs.Check.{IsCheck, check_text}

@@ -1,15 +1,15 @@
 -- The steps of a conversion over a depot.
-use Rattle.std.proofs.Common.{◌≡◌, ℕ, List, [], Option, Some, None, IfSome, OnSome, Result, Ok, Err, inl, inr, refl, ap, ◌∙◌, arith}
+use Rattle.std.proofs.Common.{◌≡◌, ℕ, List, [], Option, Some, None, IfSome, OnSome, Result, Ok, Err, inl, inr, refl, arith}
 use Rattle.evp_depot.specs.Files.{Files}
 use Rattle.evp_file.specs.declared.file.KnownFormat.{KnownFormat}
 use Rattle.evp_job.specs.declared.fault.JobFault.TheVariants.{UnknownFormat}
 use Rattle.evp_job.specs.TextShape.{TextShape}
-use Rattle.evp_stones.specs.Convert.{format_named, receiver, file_answer, converts, IsConvert, IsFileBy, IsReadFor}
+use Rattle.evp_stones.specs.Convert.{format_named, file_answer, converts, IsConvert, IsFileBy, IsReadFor}
 use Rattle.evp_stones.specs.declared.refusal.Refusal.{Refusal}
 use Rattle.evp_stones.specs.declared.refusal.Refusal.TheVariants.{Job}
 use Rattle.evp_stones.specs.Fetching.{IsHeld}
 use Rattle.evp_stones.specs.JobText.{IsJobOf}
-use Rattle.evp_stones.specs.Steps.{◌>>=◌, Works}
+use Rattle.evp_stones.specs.Steps.{Works}
 use Rattle.evp_stones.proofs.Joined.{works_as, works_cut, works_both}
 
 -- no format has the name, and nothing was read

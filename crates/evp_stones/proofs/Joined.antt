@@ -1,6 +1,6 @@
 -- How works over a depot follow each other.
-use Rattle.std.proofs.Common.{◌≡◌, ℕ, ◌≤◌, List, Option, Some, None, IfSome, OnSome, Result, Ok, Err, arith}
-use Rattle.evp_depot.specs.Counts.{Rose, Rose-after}
+use Rattle.std.proofs.Common.{◌≡◌, ℕ, List, Option, Some, None, IfSome, OnSome, Result, Ok, Err, arith}
+use Rattle.evp_depot.specs.Counts.{Rose-after}
 use Rattle.evp_depot.specs.Files.{Files}
 use Rattle.evp_stones.specs.declared.refusal.Refusal.{Refusal}
 use Rattle.evp_stones.specs.declared.refusal.Refusal.TheVariants.{Words, Absent, Read, TooLong, NotJson, Job, Data, Order, Memory}

@@ -1,5 +1,5 @@
 -- Lines, refusals and what is shown, computed on small values by hand.
-use Rattle.std.proofs.Common.{◌≡◌, ℕ, List, [], ◌∷◌, codes, pos, Some, None, refl}
+use Rattle.std.proofs.Common.{◌≡◌, [], ◌∷◌, codes, pos, Some, None, refl}
 use Rattle.std.specs.Fmt.{digits}
 use Rattle.hex.specs.Hex.{encode_with}
 use Rattle.evp_base.specs.declared.kind.Kind.TheVariants.{Int}
@@ -9,9 +9,8 @@ use Rattle.evp_file.specs.declared.fault.FileFault.TheVariants.{Trailing}
 use Rattle.evp_file.specs.declared.file.FileItem.{FileItem}
 use Rattle.evp_file.specs.declared.file.KnownFormat.{KnownFormat}
 use Rattle.evp_file.specs.File.{item_of}
-use Rattle.evp_format.specs.declared.field.Base.TheVariants.{Number, Text}
+use Rattle.evp_format.specs.declared.field.Base.TheVariants.{Number}
 use Rattle.evp_format.specs.declared.field.Shape.TheVariants.{One, Counted}
-use Rattle.evp_format.specs.Layout.{Layout}
 use Rattle.evp_job.specs.declared.fault.JobFault.TheVariants.{Limit}
 use Rattle.evp_stones.specs.declared.refusal.Refusal.TheVariants.{Data, Job}
 use Rattle.evp_stones.specs.Refusals.{refusal_line}

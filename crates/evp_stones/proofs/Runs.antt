@@ -1,14 +1,14 @@
 -- The steps to a report, over a depot.
-use Rattle.std.proofs.Common.{◌≡◌, ℕ, List, Option, Result, Ok, Err, inl, inr, refl, ap, ◌∙◌, sym}
+use Rattle.std.proofs.Common.{◌≡◌, ℕ, List, Option, Result, Ok, Err, inl, inr, refl}
 use Rattle.evp_depot.specs.Files.{Files}
 use Rattle.evp_report.specs.Report.{report}
 use Rattle.evp_stone.specs.JobShape.{JobShape}
 use Rattle.evp_stones.specs.declared.refusal.Refusal.{Refusal}
 use Rattle.evp_stones.specs.Fetching.{IsHeld}
-use Rattle.evp_stones.specs.Run.{actors_of, IsOrderFile, IsRun, IsWalk, IsWalkRead, turns_named, walked}
+use Rattle.evp_stones.specs.Run.{actors_of, IsRun, IsWalk, IsWalkRead, turns_named, walked}
 use Rattle.evp_stones.specs.Steps.{◌>>=◌, Works, seen_by}
 use Rattle.evp_stones.specs.WholeJob.{IsJobRead, IsWholeJob}
-use Rattle.evp_stones.proofs.Joined.{works_as, works_both, works_cut}
+use Rattle.evp_stones.proofs.Joined.{works_both, works_cut}
 use Rattle.evp_stones.proofs.Mapped.{works_on}
 
 -- what a run answers, by the job or its refusal

@@ -1,8 +1,8 @@
 -- The name of a source by its number.
-use Rattle.std.proofs.Common.{◌≡◌, ℕ, zero, suc, ◌<◌, ◌≤◌, List, [], ◌∷◌, length, get_or, refl, sym, ap, arith}
+use Rattle.std.proofs.Common.{◌≡◌, ℕ, zero, suc, ◌<◌, ◌≤◌, List, [], ◌∷◌, length, get_or, refl, ap, arith}
 use Rattle.std.specs.Prelude.{slice_get}
 use Rattle.evp_job.specs.declared.sources.SourceText.{SourceText}
-use Rattle.evp_job.specs.SourceView.{source_of, sources_of}
+use Rattle.evp_job.specs.SourceView.{sources_of}
 use Rattle.evp_stones.specs.Check.{source_text}
 
 pub source_there : (sources : List SourceText) (k : ℕ) (source : SourceText) → k < length sources → source ≡ get_or sources k source

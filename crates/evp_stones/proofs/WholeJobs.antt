@@ -8,7 +8,7 @@ use Rattle.evp_stones.specs.declared.refusal.Refusal.{Refusal}
 use Rattle.evp_stones.specs.Fetching.{IsHeld}
 use Rattle.evp_stones.specs.JobText.{IsJobOf}
 use Rattle.evp_stones.specs.RecordFiles.{IsNext}
-use Rattle.evp_stones.specs.Steps.{◌>>=◌, Works}
+use Rattle.evp_stones.specs.Steps.{Works}
 use Rattle.evp_stones.specs.WholeJob.{file_names, IsJobRead, IsWholeJob, with_files}
 use Rattle.evp_stones.proofs.Joined.{works_both, works_cut}
 

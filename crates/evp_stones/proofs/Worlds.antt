@@ -1,5 +1,5 @@
 -- How many actors a world has.
-use Rattle.std.proofs.Common.{◌≡◌, ◌+◌, length, ap, ◌∙◌}
+use Rattle.std.proofs.Common.{◌≡◌, length, ap, ◌∙◌}
 use Rattle.evp_core.specs.WorldShape.{WorldShape, HasRules}
 use Rattle.evp_stone.specs.JobShape.{JobShape}
 use Rattle.evp_stones.specs.Run.{actors_of}

@@ -1,5 +1,5 @@
 -- What was found for the formats of a file and a receiver's.
-use Rattle.std.specs.Prelude.{ℕ, List, [], ◌∷◌, Option, Some, None, ⊤}
+use Rattle.std.specs.Prelude.{List, [], ◌∷◌, Option, Some, None, ⊤}
 use Rattle.evp_cache.specs.declared.found.Found.{Found}
 use Rattle.evp_cache.specs.Finding.{IsFound}
 use Rattle.evp_file.specs.declared.file.FileFormat.{FileFormat}

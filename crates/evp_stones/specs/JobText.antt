@@ -1,5 +1,5 @@
 -- The job that the document of a name states, by its text alone.
-use Rattle.std.specs.Prelude.{◌≡◌, ℕ, List, Result, Ok, Err}
+use Rattle.std.specs.Prelude.{ℕ, List, Result, Ok, Err}
 use Rattle.evp_depot.specs.Files.{Files}
 use Rattle.evp_job.specs.declared.job.ReadJob.TheVariants as read
 use Rattle.evp_job.specs.Job.{StatesJob, IsRefusalOf}

@@ -1,7 +1,6 @@
 use Rattle.std.specs.List.{flat_map}
 use Rattle.evp_job.specs.SourceView.{sources_of}
-use Rattle.evp_stones.specs.Check.{declared_in, route_line}
-use Rattle.evp_stones.specs.Numbered.{numbered}
+use Rattle.evp_stones.specs.Check.{route_line}
 use Rattle.evp_report.proofs.Chains.{then, cut}
 use Rattle.evp_stones.proofs.check.put_checked.Goals as goal
 

@@ -1,5 +1,4 @@
-use Rattle.std.proofs.Common.{◌∙◌, sym, ap, length, refl}
-use Rattle.evp_job.specs.SourceView.{source_of}
+use Rattle.std.proofs.Common.{◌∙◌}
 use Rattle.evp_stones.proofs.Sources.{source_there, source_past}
 use Rattle.evp_stones.proofs.check.source_name.Goals as goal
 

@@ -1,4 +1,3 @@
-use Rattle.std.proofs.Common.{sym, ap, ◌∙◌, Err}
 use Rattle.std.proofs.lemmas.Result.{err_from_is_err_and}
 use Rattle.evp_job.specs.TextView.{text_of}
 use Rattle.evp_stones.specs.Converted.{converted_text}

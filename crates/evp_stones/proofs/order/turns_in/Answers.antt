@@ -1,8 +1,7 @@
-use Rattle.std.proofs.Common.{◌≡◌, ◌<◌, ◌+◌, ◌++◌, ◌∷◌, [], drop, length, Ok, Err, refl, sym, ap, ◌∙◌, subst, arith}
+use Rattle.std.proofs.Common.{◌≡◌, ℕ, List, ◌<◌, ◌+◌, ◌++◌, ◌∷◌, [], drop, length, sym, ap, ◌∙◌, arith}
 use Rattle.std.proofs.lemmas.Result.{err_from_is_err_and}
 use Rattle.evp_stones.specs.DecimalNumber.{number_in}
 use Rattle.evp_stones.specs.Order.{first_line, turn_at, turns_of}
-use Rattle.evp_stones.specs.Steps.{Gives}
 use Rattle.evp_stones.proofs.Pushed.{all_more, pushed}
 use Rattle.evp_stones.proofs.Turns.{TurnsSoFar, refused_too, rest_is, turn_more, turn_refused, turns_all, turns_end}
 use Rattle.evp_stones.proofs.order.turns_in.Goals as goal
@@ -17,12 +16,12 @@ returns-in_err-actor-clause-exact c =
     let exit = err_from_is_err_and c.from_residual.result c.from_residual.ensures.1 in
     let line : c.first_line-line.result.now ≡ first_line (drop c.loop.at c.args.bytes.now) =
     c.first_line-line.ensures ∙ ap first_line (rest_is c.loop.at c.args.bytes.now) in
+    let turn = λ (l : List ℕ). turn_at c.args.name.now c.loop.at (number_in c.args.actors l) in
     rw (exit.1, exit.2)
-    (refused_too c.in_err-actor.field-0.0 (turn_at c.args.name.now c.loop.at (number_in c.args.actors (first_line (drop c.loop.at c.args.bytes.now))))
-    (turns_of c.args.actors c.args.name.now c.args.bytes.now)
+    (refused_too c.in_err-actor.field-0.0 (turn c.first_line-line.result.now) (turns_of c.args.actors c.args.name.now c.args.bytes.now)
     (λ bad. turn_refused c.args.actors c.args.name.now c.args.bytes.now c.loop.counter c.loop.at c.loop.turns.items c.in_err-actor.field-0.0
-    c.loop-test.true (omega (arith, c.if-at-bytes.false)) bad c.loop.invariant.so_far)
-    (rw line at c.in_err-actor.ensures.exact))
+    c.loop-test.true (omega (arith, c.if-at-bytes.false)) (sym (ap turn line) ∙ bad) c.loop.invariant.so_far)
+    c.in_err-actor.ensures.exact)
 
 pub loop-preserved : goal.loop-preserved
 loop-preserved c =

@@ -1,5 +1,5 @@
 use Rattle.std.proofs.Common.{codes}
-use Rattle.evp_report.specs.Report.{counted, line_end}
+use Rattle.evp_report.specs.Report.{line_end}
 use Rattle.evp_stones.specs.Outcomes.{outcome_text}
 use Rattle.evp_report.proofs.Chains.{then, cut, longer}
 use Rattle.evp_stones.proofs.convert.text.put_line.Goals as goal

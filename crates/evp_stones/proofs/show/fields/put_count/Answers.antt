@@ -1,4 +1,4 @@
-use Rattle.evp_report.proofs.Chains.{then, cut, longer}
+use Rattle.evp_report.proofs.Chains.{then, cut}
 use Rattle.evp_stones.proofs.show.fields.put_count.Goals as goal
 
 pub returns-in_err-put_counted : goal.returns-in_err-put_counted

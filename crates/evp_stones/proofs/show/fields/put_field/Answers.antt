@@ -1,7 +1,6 @@
 use Rattle.std.proofs.Common.{codes}
 use Rattle.evp_format.specs.Describing.{type_text}
 use Rattle.evp_report.specs.Report.{counted, line_end}
-use Rattle.evp_stones.specs.Show.{named_text}
 use Rattle.evp_report.proofs.Chains.{then, cut, longer}
 use Rattle.evp_stones.proofs.show.fields.put_field.Goals as goal
 

@@ -1,4 +1,4 @@
-use Rattle.evp_format.specs.Describing.{base_word, shape_text}
+use Rattle.evp_format.specs.Describing.{shape_text}
 use Rattle.evp_report.proofs.Chains.{then, cut}
 use Rattle.evp_stones.proofs.show.fields.put_type_text.Goals as goal
 

@@ -1,5 +1,5 @@
 use Rattle.hex.specs.Hex.{encode_lower}
-use Rattle.evp_report.specs.Report.{counted, line_end}
+use Rattle.evp_report.specs.Report.{line_end}
 use Rattle.evp_stones.specs.Show.{machine_text}
 use Rattle.evp_report.proofs.Chains.{then, cut, longer}
 use Rattle.evp_stones.proofs.show.formats.put_format_line.Goals as goal

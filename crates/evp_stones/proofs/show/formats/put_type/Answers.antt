@@ -1,5 +1,5 @@
 use Rattle.std.specs.List.{flat_map}
-use Rattle.evp_stones.specs.Show.{type_line, field_line}
+use Rattle.evp_stones.specs.Show.{field_line}
 use Rattle.evp_report.proofs.Chains.{then, cut}
 use Rattle.evp_stones.proofs.show.formats.put_type.Goals as goal
 

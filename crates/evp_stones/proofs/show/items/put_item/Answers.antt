@@ -2,7 +2,7 @@ use Rattle.std.proofs.Common.{ap, ◌∙◌}
 use Rattle.std.specs.Prelude.{slice_get}
 use Rattle.evp_report.specs.Report.{line_end}
 use Rattle.evp_stones.proofs.Looked.{looked_up}
-use Rattle.evp_stones.specs.Show.{head_text, value_in}
+use Rattle.evp_stones.specs.Show.{value_in}
 use Rattle.evp_report.proofs.Chains.{then, cut, longer}
 use Rattle.evp_stones.proofs.show.items.put_item.Goals as goal
 

@@ -1,5 +1,5 @@
 use Rattle.evp_stones.specs.Numbered.{numbered}
-use Rattle.evp_stones.specs.Show.{format_lines, item_line}
+use Rattle.evp_stones.specs.Show.{item_line}
 use Rattle.evp_report.proofs.Chains.{then, cut}
 use Rattle.evp_stones.proofs.show.shown.Shown.put.Goals as goal
 

@@ -1,0 +1,12 @@
+pub mod Gathered
+pub mod Giving
+pub mod Lists
+pub mod OpeningFacts
+pub mod Parted
+pub mod Rotas
+pub mod Rotation
+pub mod SeatOpens
+pub mod Seated
+pub mod Taking
+pub mod WayFacts
+pub mod Working

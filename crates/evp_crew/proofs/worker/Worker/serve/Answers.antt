@@ -1,0 +1,23 @@
+use Rattle.std.proofs.Common.{sym, subst}
+use Rattle.evp_crew.specs.Done.{IsDone, AreDone}
+use Rattle.evp_crew.specs.Rota.{three}
+use Rattle.evp_crew.proofs.Working.{done_one}
+use Rattle.evp_crew.proofs.worker.Worker.serve.Goals.{in-Ok, in-Err}
+use Rattle.evp_crew.proofs.worker.Worker.serve.Goals as goal
+
+pub returns-after-push-clause-works : goal.returns-after-push-clause-works
+returns-after-push-clause-works g c =
+    let t = three c.args.office.now.job.now c.args.office.now.cache.now c.args.office.now.crew.now in
+    let was = c.requires.works in
+    let done : IsDone t c.turns.new.seat = record {
+      of = c.in-Closed.ensures.of;
+      kept = c.number-number.ensures.kept;
+      closed = c.in-Closed.ensures.closed;
+    } in
+    let closed : AreDone t c.push.new.self.items = elim c.match-push.branch [
+      | in-Ok w ↦
+          subst (AreDone t) (sym w.in-Ok.ensures.items)
+          (done_one t c.args.self.now.closed.items c.turns.new.seat done was.closed)
+      | in-Err w ↦ subst (AreDone t) (sym w.in-Err.ensures.items) was.closed
+    ] in
+    record { pass = was.pass; serves = was.serves; closed = closed }

@@ -1,0 +1,15 @@
+pub mod Alone
+pub mod Carried
+pub mod Closed
+pub mod Done
+pub mod Ends
+pub mod Gathering
+pub mod Opened
+pub mod Parting
+pub mod Passes
+pub mod Rota
+pub mod Rule
+pub mod Seat
+pub mod Seated
+pub mod Ways
+pub mod Whole

@@ -1,0 +1,13 @@
+-- What a seat is seen as.
+use Rattle.evp_crew.specs.declared.seat.Seat.TheInside.{Inside}
+use Rattle.evp_crew.specs.Seat.{SeatShape}
+
+abbrev pub seat_of : Inside → SeatShape
+seat_of seat = record {
+  number = seat.number;
+  actor = seat.actor;
+  passes = seat.passes;
+  job = seat.job.value;
+  cells = seat.cache.value;
+  crew = seat.crew.value;
+}

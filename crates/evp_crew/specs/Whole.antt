@@ -1,0 +1,14 @@
+-- What holds of all that was carried.
+use Rattle.std.specs.Prelude.{◌≡◌, ◌≤◌, [], length, vec_capacity}
+use Rattle.evp_crew.specs.declared.carried.Carried.TheInside.{Inside}
+use Rattle.evp_crew.specs.Carried.{AreFirst}
+use Rattle.evp_crew.specs.Parting.{actors_of}
+use Rattle.evp_crew.specs.Rota.{three}
+
+-- there is one seat for each actor of one job, in order, each closed, and room for their accounts
+pub record HoldsWhole (carried : Inside) : Type 0 where
+  pub whole : AreFirst (three carried.job.value carried.cache.value carried.crew)
+      (actors_of carried.job.value) carried.seats.items
+  pub sources : carried.sources ≡ length carried.job.value.sources
+  pub none : carried.room.items ≡ []
+  pub room : length carried.seats.items ≤ vec_capacity carried.room

@@ -1,0 +1,24 @@
+//! Workers in threads that carry a job, one actor's turn at a time.
+#![tactic(auto)]
+
+mod alone;
+mod carried;
+mod crew;
+mod gate;
+mod gathering;
+mod opening;
+mod parting;
+mod passes;
+mod port;
+mod rota;
+mod rule;
+mod seat;
+mod three;
+mod ways;
+mod worker;
+
+pub use carried::Carried;
+pub use crew::Crew;
+pub use gate::{Gate, OpenGate};
+pub use rota::{Rota, RotaPass};
+pub use seat::Seat;

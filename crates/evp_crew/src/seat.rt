@@ -1,0 +1,88 @@
+//! Seats: actors with their passes.
+ghost use Rattle.std.specs.Prelude.{◌≡◌};
+ghost use Rattle.evp_stone.specs.Turned.{HasTurned};
+ghost use Rattle.evp_crew.specs.Passes.{counts_of};
+ghost use Rattle.evp_crew.specs.Seat.{IsSeat, IsOf};
+
+use crate::crew::Crew;
+use crate::passes::Passes;
+use crate::port::CrewPort;
+use evp_cache::PlanCache;
+use evp_stone::{Actor, Job, Turn};
+use std::marker::Model;
+use std::mem;
+use std::snapshot::Snapshot;
+use std::sync::Wait;
+
+/// An actor with its passes, between its turns.
+#[derive(Drop)]
+pub struct Seat {
+    pub(crate) number: u16,
+    pub(crate) actor: Actor,
+    pub(crate) passes: Passes,
+    // For the proofs: of which job, cache and crew it is.
+    pub(crate) job: Snapshot<Job>,
+    pub(crate) cache: Snapshot<PlanCache>,
+    pub(crate) crew: Snapshot<Crew>,
+}
+
+impl Model for Seat {
+    ghost use Rattle.evp_crew.specs.Seat.{SeatShape};
+
+    ghost Value = { SeatShape };
+
+    ghost use Rattle.std.specs.Coded.{codes};
+    ghost use Rattle.evp_cache.specs.contracts.plan_cache.PlanCache as cache_code;
+    ghost use Rattle.evp_stone.specs.contracts.actor.Actor as actor_code;
+    ghost use Rattle.evp_stone.specs.contracts.job.Job as job_code;
+    ghost use Rattle.evp_crew.specs.contracts.crew.Crew as crew_code;
+    ghost use Rattle.evp_crew.specs.contracts.passes.Passes as passes_code;
+
+    ghost coded = { Prim.hlevel (
+      codes,
+      cache_code.the_row.coded,
+      actor_code.the_row.coded,
+      job_code.the_row.coded,
+      crew_code.the_row.coded,
+      passes_code.the_row.coded,
+    ) };
+
+    ghost use Rattle.evp_crew.specs.Seat.{IsSeat};
+    ghost use Rattle.evp_crew.specs.Seated.{seat_of};
+
+    ghost view = { seat_of };
+
+    ghost invariant = { λ s. IsSeat (seat_of s) };
+}
+
+impl Seat {
+    /// The number of its actor.
+    pub fn number(&self) -> u16
+        ensures number { result ≡ self.now.number }
+        ensures kept { IsSeat self.now }
+    {
+        self.number
+    }
+
+    // One turn of the actor, by its passes at the queues of this crew.
+    pub(crate) fn turn<R: Wait>(
+        &mut self,
+        rt: &R,
+        job: &Job,
+        cache: &PlanCache,
+        crew: &Crew,
+    ) -> Turn
+        requires { IsOf job.now cache.now crew.now self.old }
+        ensures of { IsOf job.now cache.now crew.now self.new }
+        ensures number { self.new.number ≡ self.old.number }
+        ensures turned { HasTurned job.now (counts_of job.now self.old.passes)
+            (counts_of job.now self.new.passes) self.old.actor self.new.actor result }
+    {
+        let none = Passes::none(self.passes.alloc);
+        let passes = mem::replace(&mut self.passes, none);
+        let mut port = CrewPort::new(rt, crew, job, passes);
+        let turn = self.actor.turn(job, cache, &mut port);
+        self.passes = port.into_passes();
+        turn
+    }
+}

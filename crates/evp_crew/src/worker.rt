@@ -1,0 +1,155 @@
+//! Workers: each takes seats out of the rota, does turns, and puts them back.
+ghost use Rattle.std.specs.Prelude.{◌≡◌};
+ghost use Rattle.evp_crew.specs.Closed.{IsClosed};
+ghost use Rattle.evp_crew.specs.Done.{IfClosed, WorksAt, GoesOnWith};
+ghost use Rattle.evp_crew.specs.Rota.{three};
+ghost use Rattle.evp_crew.specs.Rule.{IsOfThree};
+
+use crate::crew::Crew;
+use crate::gate::Gate;
+use crate::rota::{Rota, RotaPass};
+use crate::seat::Seat;
+use evp_cache::PlanCache;
+use evp_stone::{Job, Turn};
+use std::sync::Wait;
+
+// How many turns a worker does with a seat before it puts it back.
+const MOST_TURNS: u32 = 64;
+
+/// What all workers share.
+#[derive(Clone, Copy)]
+pub(crate) struct Office<'a> {
+    pub(crate) job: &'a Job,
+    pub(crate) cache: &'a PlanCache,
+    pub(crate) crew: &'a Crew,
+    pub(crate) rota: &'a Rota,
+}
+
+/// A worker: its number, its pass of the rota, and the seats that it found closed.
+#[derive(Drop)]
+pub(crate) struct Worker {
+    pub(crate) number: u32,
+    pub(crate) pass: RotaPass,
+    pub(crate) closed: Vec<Seat>,
+}
+
+/// What a worker does next.
+#[derive(Drop)]
+pub(crate) enum Next {
+    // It takes a seat.
+    Take,
+    // It goes on with this one.
+    Hold(Seat),
+    // It ends.
+    End,
+}
+
+impl Worker {
+    /// Works until the rota is empty or a turn finds no memory.
+    pub(crate) fn work<R: Wait, G: Gate>(&mut self, rt: &R, office: &Office<'_>, gate: &G)
+        requires { WorksAt office.now.rota.now
+            (three office.now.job.now office.now.cache.now office.now.crew.now) self.old }
+        ensures { WorksAt office.now.rota.now
+            (three office.now.job.now office.now.cache.now office.now.crew.now) self.new }
+    {
+        let mut next = Next::Take;
+        for _ in rt.forever() {
+            next = match next {
+                Next::Take => self.take(rt, office),
+                Next::Hold(seat) => self.serve(rt, office, gate, seat),
+                Next::End => return,
+            };
+        }
+        unreachable!()
+    }
+
+    // Takes a seat out of the rota, or ends where it is empty.
+    fn take<R: Wait>(&mut self, rt: &R, office: &Office<'_>) -> Next
+        requires { WorksAt office.now.rota.now
+            (three office.now.job.now office.now.cache.now office.now.crew.now) self.old }
+        ensures works { WorksAt office.now.rota.now
+            (three office.now.job.now office.now.cache.now office.now.crew.now) self.new }
+        ensures next { GoesOnWith
+            (three office.now.job.now office.now.cache.now office.now.crew.now) result }
+    {
+        match office.rota.take(rt, &mut self.pass) {
+            Some(seat) => Next::Hold(seat),
+            None => Next::End,
+        }
+    }
+
+    // Does turns with a seat and puts it back, or keeps it where it is closed.
+    fn serve<R: Wait, G: Gate>(
+        &mut self,
+        rt: &R,
+        office: &Office<'_>,
+        gate: &G,
+        mut seat: Seat,
+    ) -> Next
+        requires works { WorksAt office.now.rota.now
+            (three office.now.job.now office.now.cache.now office.now.crew.now) self.old }
+        requires seat { IsOfThree
+            (three office.now.job.now office.now.cache.now office.now.crew.now) seat }
+        ensures works { WorksAt office.now.rota.now
+            (three office.now.job.now office.now.cache.now office.now.crew.now) self.new }
+        ensures next { GoesOnWith
+            (three office.now.job.now office.now.cache.now office.now.crew.now) result }
+    {
+        match turns(rt, office, gate, self.number, &mut seat) {
+            Turn::Closed => {
+                let _number = seat.number();
+                match self.closed.push(seat) {
+                    Ok(()) => Next::Take,
+                    Err(_) => Next::End,
+                }
+            }
+            Turn::Memory => self.put_back(rt, office, seat, Next::End),
+            Turn::Moved | Turn::Idle | Turn::Blocked(_) => {
+                self.put_back(rt, office, seat, Next::Take)
+            }
+        }
+    }
+
+    // Puts a seat back, and then does this, or goes on with the seat where it is handed back.
+    fn put_back<R: Wait>(&mut self, rt: &R, office: &Office<'_>, seat: Seat, then: Next) -> Next
+        requires works { WorksAt office.now.rota.now
+            (three office.now.job.now office.now.cache.now office.now.crew.now) self.old }
+        requires seat { IsOfThree
+            (three office.now.job.now office.now.cache.now office.now.crew.now) seat }
+        requires then { GoesOnWith
+            (three office.now.job.now office.now.cache.now office.now.crew.now) then }
+        ensures works { WorksAt office.now.rota.now
+            (three office.now.job.now office.now.cache.now office.now.crew.now) self.new }
+        ensures next { GoesOnWith
+            (three office.now.job.now office.now.cache.now office.now.crew.now) result }
+    {
+        match office.rota.put(rt, &mut self.pass, seat) {
+            Ok(()) => then,
+            Err(seat) => Next::Hold(seat),
+        }
+    }
+}
+
+// Does turns with a seat while they move, with the gate before each.
+fn turns<R: Wait, G: Gate>(
+    rt: &R,
+    office: &Office<'_>,
+    gate: &G,
+    worker: u32,
+    seat: &mut Seat,
+) -> Turn
+    requires { IsOfThree
+        (three office.now.job.now office.now.cache.now office.now.crew.now) seat.old }
+    ensures of { IsOfThree
+        (three office.now.job.now office.now.cache.now office.now.crew.now) seat.new }
+    ensures closed { IfClosed result (IsClosed office.now.job.now seat.new.actor.role) }
+{
+    for _ in 0..MOST_TURNS {
+        gate.before(worker, u32::from(seat.number()));
+        let turn = office.crew.step(rt, office.job, office.cache, seat);
+        if turn != Turn::Moved {
+            return turn;
+        }
+    }
+    Turn::Moved
+}

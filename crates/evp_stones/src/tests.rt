@@ -53,6 +53,7 @@ const KEPT_REPORT: &str = "round 0\na>0 passed 1 dropped 0 refused 0 held 0\n\
     #0 {x=7}\n";
 
 // What a depot holds: the job of these parts, a record file of these, and an order file.
+#[derive(Drop)]
 struct Held<'a> {
     job: &'a [&'a str],
     file: &'a [&'a [u8]],

@@ -1,14 +1,11 @@
 -- Seats of a whole job, each closed.
 use Rattle.std.specs.Prelude.{◌≡◌, ℕ, List, length, Option, Some, slice_get}
 use Rattle.evp_cache.specs.Known.{Cells}
-use Rattle.evp_graph.specs.declared.route.Route.{Route}
 use Rattle.evp_stone.specs.JobShape.{JobShape}
-use Rattle.evp_stone.specs.Entries.{flow}
 use Rattle.evp_crew.specs.declared.crew.Crew.{Crew}
 use Rattle.evp_crew.specs.declared.three.Three.{Three}
 use Rattle.evp_crew.specs.Done.{IsDone}
 use Rattle.evp_crew.specs.Parting.{actors_of}
-use Rattle.evp_crew.specs.Passes.{taken_by, given_by}
 use Rattle.evp_crew.specs.Rota.{three}
 use Rattle.evp_crew.specs.Seat.{SeatShape}
 
@@ -37,18 +34,3 @@ pub record CarriedShape : Type 0 where
 pub record IsCarried (job : JobShape) (carried : CarriedShape) : Type 0 where
   pub cells : Cells
   pub whole : AreFirst (three job cells carried.crew) (actors_of job) carried.seats
-
--- the whole flow of a route went through its queue: one seat gave all of it, and one took all of it
-pub record WentThrough (job : JobShape) (seats : List SeatShape) (number : ℕ) : Type 0 where
-  pub giver : ℕ
-  pub gave : SeatShape
-  pub gave_at : slice_get seats giver ≡ Some gave
-  pub given : given_by job gave.passes.gives.items number ≡ Some (length (flow job number))
-  pub taker : ℕ
-  pub took : SeatShape
-  pub took_at : slice_get seats taker ≡ Some took
-  pub taken : taken_by took.passes.take number ≡ Some (length (flow job number))
-
-abbrev pub AllWentThrough : JobShape → List SeatShape → Type 0
-AllWentThrough job seats = (number : ℕ) (route : Route) → slice_get job.routes number ≡ Some route
-    → WentThrough job seats number

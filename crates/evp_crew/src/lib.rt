@@ -3,7 +3,6 @@
 
 mod alone;
 mod carried;
-mod carrying;
 mod crew;
 mod gate;
 mod gathering;
@@ -19,7 +18,6 @@ mod ways;
 mod worker;
 
 pub use carried::Carried;
-pub use carrying::carry;
 pub use crew::Crew;
 pub use gate::{Gate, OpenGate};
 pub use rota::{Rota, RotaPass};

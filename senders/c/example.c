@@ -26,7 +26,8 @@ static const ndr_field row_fields[] = {
 static const ndr_type row_types[] = { NDR_TYPE("row", struct row, row_fields), NDR_NO_TYPE };
 
 /* Writes one file of these records. */
-static ndr_status write_all(const char *folder, const char *name, const ndr_type *types, const void *records, size_t size, size_t count) {
+static ndr_status write_all(const char *folder, const char *name, const ndr_type *types, const void *records,
+                            size_t size, size_t count) {
   char path[4096];
   ndr_writer out;
   unsigned kind;
@@ -34,7 +35,8 @@ static ndr_status write_all(const char *folder, const char *name, const ndr_type
   snprintf(path, sizeof path, "%s/%s", folder, name);
   if ((status = ndr_open(&out, path)) != NDR_OK) return status;
   status = ndr_format(&out, types, &kind);
-  for (size_t k = 0; k < count && status == NDR_OK; k++) status = ndr_write(&out, kind, (const char *)records + k * size);
+  for (size_t k = 0; k < count && status == NDR_OK; k++)
+    status = ndr_write(&out, kind, (const char *)records + k * size);
   if (status == NDR_OK) return ndr_end(&out);
   ndr_abandon(&out);
   return status;

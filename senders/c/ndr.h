@@ -127,7 +127,8 @@ static inline int ndr_is_reserved(const char *text, size_t size) {
 }
 
 /* The word of a type text: what an element is. */
-static inline ndr_status ndr_read_word(const ndr_type *types, size_t earlier, const ndr_field *field, size_t word, ndr_leaf *leaf) {
+static inline ndr_status ndr_read_word(const ndr_type *types, size_t earlier, const ndr_field *field, size_t word,
+                                       ndr_leaf *leaf) {
   const char *text = field->type;
   const size_t size = field->size;
   leaf->base = NDR_NUMBER;
@@ -136,7 +137,8 @@ static inline ndr_status ndr_read_word(const ndr_type *types, size_t earlier, co
     leaf->base = NDR_STRING;
     return size == sizeof(char *) ? NDR_OK : NDR_SIZE;
   }
-  if (ndr_is(text, word, "integer") || ndr_is(text, word, "unsigned integer") || ndr_is(text, word, "boolean") || ndr_is(text, word, "enumeration"))
+  if (ndr_is(text, word, "integer") || ndr_is(text, word, "unsigned integer") ||
+      ndr_is(text, word, "boolean") || ndr_is(text, word, "enumeration"))
     return size == 1 || size == 2 || size == 4 || size == 8 ? NDR_OK : NDR_SIZE;
   if (!ndr_is_name(text, word) || ndr_is_reserved(text, word)) return NDR_TYPE_TEXT;
   for (size_t k = 0; k < earlier; k++)
@@ -172,7 +174,8 @@ static inline ndr_status ndr_find_count(const ndr_field *fields, const char *nam
 }
 
 /* Resolves one field of type `number`. */
-static inline ndr_status ndr_resolve_field(const ndr_type *types, size_t number, const ndr_field *field, ndr_leaf *leaf) {
+static inline ndr_status ndr_resolve_field(const ndr_type *types, size_t number, const ndr_field *field,
+                                           ndr_leaf *leaf) {
   const char *open = strchr(field->type, '[');
   const size_t whole = strlen(field->type), word = open ? (size_t)(open - field->type) : whole;
   ndr_status status;
@@ -219,7 +222,8 @@ static inline ndr_status ndr_resolve_type(const ndr_type *types, size_t number, 
     if (leaf->offset > type->length || ndr_extent(leaf) > type->length - leaf->offset) return NDR_OUTSIDE;
     for (size_t j = 0; j < k; j++) {
       const ndr_leaf *other = &known->leaves[j];
-      if (leaf->offset < other->offset + ndr_extent(other) && other->offset < leaf->offset + ndr_extent(leaf)) return NDR_OVERLAP;
+      if (leaf->offset < other->offset + ndr_extent(other) && other->offset < leaf->offset + ndr_extent(leaf))
+        return NDR_OVERLAP;
     }
     if (leaf->base == NDR_NESTED && layout->known[leaf->nested].depth + 1 > known->depth)
       known->depth = layout->known[leaf->nested].depth + 1;
@@ -252,7 +256,8 @@ static inline ndr_status ndr_resolve(const ndr_type *types, ndr_layout *layout) 
     if (!ndr_is_name(types[k].name, size) || ndr_is_reserved(types[k].name, size)) status = NDR_NAME;
     for (size_t j = 0; j < k && status == NDR_OK; j++)
       if (strcmp(types[k].name, types[j].name) == 0) status = NDR_TWICE;
-    if (status == NDR_OK && (known->length < 1 || known->length > 65536 || known->fields < 1 || known->fields > 1024 || all > 4096)) status = NDR_LIMIT;
+    if (status == NDR_OK && (known->length < 1 || known->length > 65536 || all > 4096)) status = NDR_LIMIT;
+    if (status == NDR_OK && (known->fields < 1 || known->fields > 1024)) status = NDR_LIMIT;
     if (status == NDR_OK && !(known->leaves = (ndr_leaf *)calloc(known->fields, sizeof(ndr_leaf)))) status = NDR_MEMORY;
     if (status == NDR_OK) status = ndr_resolve_type(types, k, layout);
   }
@@ -297,18 +302,26 @@ static inline ndr_status ndr_count(const ndr_leaf *leaf, const unsigned char *re
   const unsigned char *from = record + leaf->count_offset;
   uint64_t n = 0;
   if (leaf->count_size == 1) n = leaf->count_signed ? (uint64_t)(int64_t)(int8_t)*from : *from;
-  else if (leaf->count_size == 2) { uint16_t v; memcpy(&v, from, 2); n = leaf->count_signed ? (uint64_t)(int64_t)(int16_t)v : v; }
-  else if (leaf->count_size == 4) { uint32_t v; memcpy(&v, from, 4); n = leaf->count_signed ? (uint64_t)(int64_t)(int32_t)v : v; }
-  else memcpy(&n, from, 8);
+  else if (leaf->count_size == 2) {
+    uint16_t v;
+    memcpy(&v, from, 2);
+    n = leaf->count_signed ? (uint64_t)(int64_t)(int16_t)v : v;
+  } else if (leaf->count_size == 4) {
+    uint32_t v;
+    memcpy(&v, from, 4);
+    n = leaf->count_signed ? (uint64_t)(int64_t)(int32_t)v : v;
+  } else memcpy(&n, from, 8);
   if (leaf->count_signed && n >> 63) return NDR_NEGATIVE;
   *count = n > SIZE_MAX ? SIZE_MAX : (size_t)n;
   return NDR_OK;
 }
 
-static inline ndr_status ndr_put_record(ndr_writer *out, const ndr_layout *layout, size_t type, const unsigned char *from, size_t at);
+static inline ndr_status ndr_put_record(ndr_writer *out, const ndr_layout *layout, size_t type,
+                                        const unsigned char *from, size_t at);
 
 /* One element of a field, at `at` of the record at hand. */
-static inline ndr_status ndr_put_element(ndr_writer *out, const ndr_layout *layout, const ndr_leaf *leaf, const unsigned char *from, size_t at) {
+static inline ndr_status ndr_put_element(ndr_writer *out, const ndr_layout *layout, const ndr_leaf *leaf,
+                                         const unsigned char *from, size_t at) {
   const unsigned char *text;
   size_t size, first;
   ndr_status status;
@@ -326,7 +339,8 @@ static inline ndr_status ndr_put_element(ndr_writer *out, const ndr_layout *layo
 }
 
 /* The elements of an array, the first at `at` of the record at hand. */
-static inline ndr_status ndr_put_elements(ndr_writer *out, const ndr_layout *layout, const ndr_leaf *leaf, const unsigned char *from, size_t at, size_t count) {
+static inline ndr_status ndr_put_elements(ndr_writer *out, const ndr_layout *layout, const ndr_leaf *leaf,
+                                          const unsigned char *from, size_t at, size_t count) {
   if (leaf->base == NDR_NUMBER) {
     memcpy(out->record + at, from, count * leaf->size);
     return NDR_OK;
@@ -339,7 +353,8 @@ static inline ndr_status ndr_put_elements(ndr_writer *out, const ndr_layout *lay
 }
 
 /* A record of that type, from memory to `at` of the record at hand, which is zero there. */
-static inline ndr_status ndr_put_record(ndr_writer *out, const ndr_layout *layout, size_t type, const unsigned char *from, size_t at) {
+static inline ndr_status ndr_put_record(ndr_writer *out, const ndr_layout *layout, size_t type,
+                                        const unsigned char *from, size_t at) {
   const ndr_known *known = &layout->known[type];
   for (size_t k = 0; k < known->fields; k++) {
     const ndr_leaf *leaf = &known->leaves[k];
@@ -448,7 +463,8 @@ static inline ndr_status ndr_write(ndr_writer *out, unsigned number, const void 
   last = out->layouts[number].types - 1;
   out->used = 0;
   if ((status = ndr_grow(out, out->layouts[number].known[last].length)) != NDR_OK) return status;
-  if ((status = ndr_put_record(out, &out->layouts[number], last, (const unsigned char *)record, 0)) != NDR_OK) return status;
+  status = ndr_put_record(out, &out->layouts[number], last, (const unsigned char *)record, 0);
+  if (status != NDR_OK) return status;
   if (out->used + sizeof head > (size_t)16 * 1024 * 1024 - 1 - out->written) return NDR_TOO_LONG;
   head[0] = 'R';
   ndr_number(ndr_number(head + 1, 2, number), 4, out->used);
@@ -469,11 +485,12 @@ static inline ndr_status ndr_abandon(ndr_writer *out) {
   return fclose(file) == 0 ? NDR_OK : NDR_FILE;
 }
 
-/* Writes the file's end and closes it. Where this isn't NDR_OK the file isn't whole. */
+/* Writes the file's end and closes it. Where this isn't NDR_OK the file isn't whole; it isn't where a write failed
+ * before, also one that was tried again. */
 static inline ndr_status ndr_end(ndr_writer *out) {
   ndr_status status, closed;
   if (!out->file) return NDR_CLOSED;
-  status = fwrite("E", 1, 1, out->file) == 1 && fflush(out->file) == 0 ? NDR_OK : NDR_FILE;
+  status = fwrite("E", 1, 1, out->file) == 1 && fflush(out->file) == 0 && !ferror(out->file) ? NDR_OK : NDR_FILE;
   closed = ndr_abandon(out);
   return status != NDR_OK ? status : closed;
 }

@@ -1,4 +1,8 @@
-/* Every refusal of ndr.h, once: cc -std=c99 -I../c refusals.c && ./a.out FOLDER */
+/* Every refusal of ndr.h but want of memory, once: cc -std=c99 -I../c refusals.c && ./a.out FOLDER */
+#define _XOPEN_SOURCE 700
+#include <signal.h>
+#include <sys/resource.h>
+
 #include "ndr.h"
 
 struct pair { int32_t n; int16_t *v; };
@@ -85,6 +89,28 @@ static void try_long(const char *path) {
   expect("the end", NDR_OK, ndr_end(&out));
 }
 
+/* A disk that is full for a while: the file isn't whole, though its end could be written. */
+static void try_full(const char *path) {
+  static unsigned char block[65536];
+  static const ndr_field block_fields[] = { { "b", "char[65536]", 1, 0 }, NDR_END };
+  static const ndr_type block_types[] = { { "t", 65536, block_fields }, NDR_NO_TYPE };
+  struct rlimit usual, small;
+  ndr_writer out;
+  unsigned number = 0;
+  ndr_status status = ndr_open(&out, path);
+  if (status == NDR_OK) status = ndr_format(&out, block_types, &number);
+  expect("before the disk is full", NDR_OK, status);
+  signal(SIGXFSZ, SIG_IGN);
+  getrlimit(RLIMIT_FSIZE, &usual);
+  small = usual;
+  small.rlim_cur = 8192;
+  setrlimit(RLIMIT_FSIZE, &small);
+  expect("a disk that is full", NDR_FILE, ndr_write(&out, number, block));
+  setrlimit(RLIMIT_FSIZE, &usual);
+  expect("a record when it has room again", NDR_OK, ndr_write(&out, number, block));
+  expect("the end of a file that isn't whole", NDR_FILE, ndr_end(&out));
+}
+
 int main(int words, char **word) {
   char path[4096], other[4096], third[4096];
   ndr_writer out;
@@ -104,6 +130,6 @@ int main(int words, char **word) {
   expect("a second end", NDR_CLOSED, ndr_end(&out));
   try_limits(other);
   try_long(third);
-  if (ndr_open(&out, "/dev/full") == NDR_OK) expect("a full disk", NDR_FILE, ndr_end(&out));
+  try_full(path);
   return wrong;
 }

@@ -1,6 +1,6 @@
 """Holds the Python writer to the reader, to the C example's files, and to the profiles.
 
-    python3 writing.py FOLDER      FOLDER has the files that the C example wrote
+    python3 writing.py FOLDER OUT      FOLDER has the files that the C example wrote, OUT gets some by Python
 """
 import ctypes
 import io
@@ -72,6 +72,11 @@ def expect(what: str, wanted, given):
         sys.exit(1)
 
 
+def keep(out: str, name: str, data: bytes):
+    with open(os.path.join(out, name + ".ndr"), "wb") as file:
+        file.write(data)
+
+
 def same_as_c(folder: str):
     """What Python writes from values is what C writes from memory, byte for byte."""
     for name, (kind, values) in RECORDS.items():
@@ -82,7 +87,7 @@ def same_as_c(folder: str):
         expect(f"{name} by Python", of_c, written(ndr.format_of(kind), values))
 
 
-def by_profiles():
+def by_profiles(out: str):
     """Each profile's file is read back as it was written, whatever this machine is."""
     types = [("item", [("id", "unsigned integer", 4), ("label", "string"), ("qty", "integer", 2)]),
              ("order", [("customer", "string"), ("n", "unsigned integer", 2),
@@ -91,6 +96,7 @@ def by_profiles():
         values = RECORDS["order"][1]
         data = written(ndr.lay_out(profile, types), values)
         expect(profile, [(0, value) for value in values], ndr.read_file(data)[1])
+        keep(out, profile, data)
 
 
 def refusals():
@@ -123,26 +129,9 @@ def not_ended():
         expect("a file that wasn't ended", "short", "nothing")
 
 
-def arrays():
-    """A NumPy structured array is written as its records one by one would be."""
-    try:
-        import numpy
-    except ImportError:
-        print("writing.py: NumPy isn't there, its part was left out")
-        return
-    dtype = numpy.dtype([("index", "u4"), ("cells", "i4", 4)], align=True)
-    rows = numpy.array([(0, (1, 2, 3, 4)), (1, (-1, -2, -3, -4))], dtype)
-    out = io.BytesIO()
-    out.close = lambda: None
-    with ndr.Writer(out) as writer:
-        writer.write_array(writer.add_format(ndr.format_of_dtype(dtype, "row")), rows)
-    expect("rows by NumPy", written(ndr.format_of(Row), RECORDS["row"][1]), out.getvalue())
-
-
 if __name__ == "__main__":
     same_as_c(sys.argv[1])
-    by_profiles()
+    by_profiles(sys.argv[2])
     refusals()
     not_ended()
-    arrays()
     print("ndr.py: writing ok")

@@ -1,4 +1,5 @@
 mod Agreements
+mod Alone
 mod Bytes
 mod Compiling
 mod Counts
@@ -6,12 +7,14 @@ mod Elements
 mod Examples
 mod Extends
 mod Fields
+mod JoinedUp
+mod Joins
 mod Leading
-mod Leads
 mod Led
 mod Moves
 mod Records
 mod Runs
 mod Sides
+mod Stacks
 mod Streams
 mod Waiting

@@ -1,6 +1,8 @@
 pub mod Binding
 pub mod Bound
 pub mod FaultText
+pub mod Joining
+pub mod Leads
 pub mod Meaning
 pub mod Operands
 pub mod Running

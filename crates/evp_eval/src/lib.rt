@@ -6,6 +6,7 @@ mod binder;
 mod bound;
 mod fault;
 mod instruction;
+mod joining;
 mod machine;
 mod operands;
 mod reach;

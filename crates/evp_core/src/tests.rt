@@ -1,6 +1,7 @@
 //! Jobs that a world carries, by their reports.
 
 mod jobs;
+mod monitoring;
 mod orders;
 mod turns;
 
@@ -10,7 +11,7 @@ use crate::World;
 use evp_depot::MemorySink;
 use evp_report::write_report;
 use evp_stone::Job;
-use jobs::job_of;
+use jobs::job_of_one;
 use std::alloc::{AllocError, Global};
 use std::rt::HostRuntime;
 use std::test::Fail;
@@ -151,6 +152,9 @@ const ROWS: [Row; 6] = [
     },
 ];
 
+// The most bytes of a report.
+const ROOM: u32 = 100_000;
+
 // What queues a document states: 64 places where it states none.
 const QUEUES: [&str; 2] = ["", "\"queue\":1,"];
 
@@ -171,7 +175,7 @@ fn finished(alloc: Global, job: &Job, mut world: World<'_>) -> Result<Vec<u8>, F
 {
     world.finish().ok().ok_or("memory")?;
     let accounts = world.accounts();
-    let mut sink = MemorySink::new(alloc, 10_000, 10_000, Vec::new(alloc))?;
+    let mut sink = MemorySink::new(alloc, ROOM, ROOM, Vec::new(alloc))?;
     write_report(job, &accounts, &mut sink)
         .ok()
         .ok_or("a report")?;
@@ -194,7 +198,7 @@ fn report_of(alloc: Global, row: &Row, queue: &str) -> Result<Vec<u8>, Fail> {
         ..
     } = row;
     let document = document_of(alloc, queue, formats, stones, rounds)?;
-    let job = job_of(alloc, document.as_str(), file).ok_or("a job")?;
+    let job = job_of_one(alloc, document.as_str(), file).ok_or("a job")?;
     report(alloc, &job)
 }
 

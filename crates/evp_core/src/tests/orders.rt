@@ -1,24 +1,20 @@
-//! Every order of turns of a source, a split and a terminal with two records.
+//! Every list of at most twelve turns of a source, a split and a terminal with two records.
 
-ghost use Rattle.std.specs.Prelude.{◌≡◌};
-ghost use Rattle.evp_core.specs.WorldShape.{HasRules};
-
-use super::turns::turned;
-use super::{FIVE, NARROW, QUEUES, SPLIT, document_of, finished, job_of};
-use crate::World;
-use evp_stone::{Job, Turn};
+use super::jobs::job_of_one;
+use super::turns::behind;
+use super::{FIVE, NARROW, QUEUES, SPLIT, document_of, finished};
+use evp_stone::Job;
 use std::alloc::Global;
 use std::rt::HostRuntime;
 use std::test::Fail;
 
-// How many turns an order has, before the world goes on in rotation.
-const MOST: usize = 12;
+// How many lists of turns of three actors there are, by the number of their turns.
+const LISTS: [u32; 13] = [
+    1, 3, 9, 27, 81, 243, 729, 2_187, 6_561, 19_683, 59_049, 177_147, 531_441,
+];
 
-// How many orders there are.
-const ORDERS: u32 = 531_441;
-
-// How many orders differ in their turns up to the first that doesn't move, for each of the queues.
-const DIFFERENT: [u32; 2] = [2_561, 1_001];
+// How many these are together.
+const ALL: u32 = 797_161;
 
 const ROUNDS: &str = "{\"submit\":[2],\"frozen\":[]}";
 
@@ -26,63 +22,53 @@ const REPORT: &str = "round 0\n\
     a>0 passed 2 dropped 0 refused 0 held 0\n\
     a>0>1 passed 2 dropped 0 refused 0 held 0\n#0 {x=1}\n#1 {x=2}\n";
 
-// How many orders begin with the same turns, so many of them.
-fn alike(turns: usize) -> u32 {
-    let mut orders = ORDERS;
-    for _ in 0..turns {
-        orders /= 3;
+// The actors whose numbers are the digits of a number by threes, the least digit first.
+fn actors_of(number: u32) -> [u16; 12] {
+    let mut actors = [0; 12];
+    let mut rest = number;
+    for actor in actors.iter_mut() {
+        *actor = (rest % 3) as u16;
+        rest /= 3;
     }
-    orders
+    actors
 }
 
-// The actor of this turn of the order of this number.
-fn actor_of(number: u32, turn: usize) -> u16 {
-    match alike(turn.saturating_add(1)) {
-        0 => 0,
-        orders => (number / orders % 3) as u16,
-    }
-}
-
-// Makes the turns of an order up to the first that doesn't move; how many it made.
-fn made(job: &Job, world: &mut World<'_>, number: u32) -> usize
-    requires job { world.old.lists.job ≡ job.now }
-    requires rules { HasRules world.old }
-    ensures job { world.new.lists.job ≡ job.now }
-{
-    for turn in 0..MOST {
-        if turned(job, world, actor_of(number, turn)) != Some(Turn::Moved) {
-            return turn + 1;
+// The number of the first list of so many turns that doesn't come to the report. Each list is made by
+// a world of its own, which then goes on in rotation.
+fn other(alloc: Global, job: &Job, turns: usize, lists: u32) -> Result<Option<u32>, Fail> {
+    for number in 0..lists {
+        let actors = actors_of(number);
+        let world = behind(alloc, job, &actors[..turns.min(12)])?;
+        if finished(alloc, job, world)?.as_slice() != REPORT.as_bytes() {
+            return Ok(Some(number));
         }
     }
-    MOST
+    Ok(None)
 }
 
-// The number of the next order that differs in one of so many turns.
-fn next(number: u32, turns: usize) -> u32 {
-    let orders = alike(turns).max(1);
-    (number / orders).saturating_add(1).saturating_mul(orders)
-}
-
-// How many turns of an order were made, and the report of the world behind them.
-fn tried(alloc: Global, job: &Job, number: u32) -> Result<(usize, Vec<u8>), Fail> {
-    let mut world = World::new(alloc, job).ok().ok_or("a world")?;
-    let turns = made(job, &mut world, number);
-    Ok((turns, finished(alloc, job, world)?))
+// How many lists come to the report before one that doesn't, of all lists of at most twelve turns, by
+// the number of their turns.
+fn alike(alloc: Global, queue: &str) -> Result<u32, Fail> {
+    let document = document_of(alloc, queue, NARROW, SPLIT, ROUNDS)?;
+    let job = job_of_one(alloc, document.as_str(), FIVE).ok_or("a job")?;
+    let mut alike = 0u32;
+    for (turns, lists) in LISTS.into_iter().enumerate() {
+        match other(alloc, &job, turns, lists)? {
+            None => alike = alike.saturating_add(lists),
+            Some(number) => return Ok(alike.saturating_add(number)),
+        }
+    }
+    Ok(alike)
 }
 
 #[test]
-fn every_order_of_turns(rt: HostRuntime) -> Result<(), Fail> {
-    let alloc = rt.alloc();
-    for (queue, different) in QUEUES.into_iter().zip(DIFFERENT) {
-        let document = document_of(alloc, queue, NARROW, SPLIT, ROUNDS)?;
-        let job = job_of(alloc, document.as_str(), FIVE).ok_or("a job")?;
-        let mut number = 0u32;
-        for _ in 0..different {
-            let (turns, report) = tried(alloc, &job, number)?;
-            assert_eq!(rt; (number, report.as_slice()), (number, REPORT.as_bytes()));
-            number = next(number, turns);
-        }
-        assert_eq!(rt; (queue, number), (queue, ORDERS));
-    }
+fn every_list_of_turns_with_room_for_all(rt: HostRuntime) -> Result<(), Fail> {
+    assert_eq!(rt; alike(rt.alloc(), QUEUES[0])?, ALL);
+    Ok(())
+}
+
+#[test]
+fn every_list_of_turns_with_room_for_one(rt: HostRuntime) -> Result<(), Fail> {
+    assert_eq!(rt; alike(rt.alloc(), QUEUES[1])?, ALL);
     Ok(())
 }

@@ -3,7 +3,7 @@
 ghost use Rattle.std.specs.Prelude.{◌≡◌, ◌+◌, ◌<◌, All, IfOk, IsTrue, length};
 ghost use Rattle.evp_core.specs.WorldShape.{HasRules};
 
-use super::{ONE, TERMINAL, WIDE, document_of, finished, job_of};
+use super::{ONE, TERMINAL, WIDE, document_of, finished, job_of_one};
 use crate::World;
 use evp_stone::{Job, Turn};
 use std::alloc::Global;
@@ -55,7 +55,7 @@ fn are_actors(job: &Job, actors: &[u16]) -> bool
 }
 
 // The world of a job behind these turns.
-fn behind<'a>(alloc: Global, job: &'a Job, actors: &[u16]) -> Result<World<'a>, Fail>
+pub fn behind<'a>(alloc: Global, job: &'a Job, actors: &[u16]) -> Result<World<'a>, Fail>
     ensures { IfOk result (λ world. world.lists.job ≡ job.now) }
 {
     if !are_actors(job, actors) {
@@ -90,7 +90,7 @@ fn ran(alloc: Global, job: &Job, actors: &[u16]) -> Result<(u64, Vec<u8>), Fail>
 fn turns_of_two_actors(rt: HostRuntime) -> Result<(), Fail> {
     let alloc = rt.alloc();
     let document = document_of(alloc, "", WIDE, TERMINAL, ROUNDS)?;
-    let job = job_of(alloc, document.as_str(), ONE).ok_or("a job")?;
+    let job = job_of_one(alloc, document.as_str(), ONE).ok_or("a job")?;
     let answers = answers(alloc, &job, &ACTORS)?;
     assert_eq!(rt; answers.as_slice(), ANSWERS.as_slice());
     let (done, report) = ran(alloc, &job, &ACTORS)?;

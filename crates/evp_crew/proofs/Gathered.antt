@@ -1,5 +1,5 @@
 -- Seats that were found closed come to their places, and are read from them in order.
-use Rattle.std.proofs.Common.{◌≡◌, ◌≢◌, ℕ, zero, suc, ◌+◌, ◌<◌, ◌≤◌, List, [], ◌∷◌, ◌++◌, length, set, Option, Some, None}
+use Rattle.std.proofs.Common.{◌≡◌, ◌≢◌, ℕ, ◌+◌, ◌<◌, ◌≤◌, List, [], ◌∷◌, ◌++◌, length, set, Option, Some, None}
 use Rattle.std.proofs.Common.{refl, sym, ap, subst, ◌∙◌, ⊎_elim, arith, length-append}
 use Rattle.std.proofs.lemmas.Bool.Decides.{eqb_tells}
 use Rattle.std.specs.List.{slice_get}
@@ -11,7 +11,7 @@ use Rattle.evp_crew.specs.Carried.{IsDoneAt, AreSlots, AreFirst}
 use Rattle.evp_crew.specs.Done.{IsDone, AreDone, WorksAt}
 use Rattle.evp_crew.specs.Gathering.{AllWork}
 use Rattle.evp_crew.specs.Seat.{SeatShape}
-use Rattle.evp_crew.proofs.Lists.{snoc_at, front_at, last_there}
+use Rattle.evp_crew.proofs.Lists.{snoc_at, front_at, last_there, there_below}
 
 same_seat : (a b : SeatShape) → Some (Some a) ≡ Some (Some b) → a ≡ b
 same_seat a b same = cc
@@ -21,17 +21,12 @@ pub slot_set : (three : Three) (slots : List (Option SeatShape)) (number : ℕ) 
     → number < length slots → IsDone three seat → AreSlots three slots → AreSlots three (set slots number (Some seat))
 slot_set three slots number seat is below done are place s at =
     ⊎_elim (λ e.
-    let was = get_at slots number below in
+    let was = there_below slots number below in
     let same : seat ≡ s = same_seat seat s
     (sym (set_here slots number was.0 (Some seat) was.1) ∙ ap (slice_get (set slots number (Some seat))) (sym e.1) ∙ at) in
     subst (IsDoneAt three place) same record { number_is = sym is ∙ sym e.1; done = done })
     (λ e. are place s (sym (set_elsewhere slots number place (Some seat) e.1) ∙ at))
     (eqb_tells place number)
-  where
-    get_at : {X : Type 0} (xs : List X) (k : ℕ) → k < length xs → (x : X) × (slice_get xs k ≡ Some x)
-    get_at [] k below = absurd (omega arith)
-    get_at (x ∷ xs) zero below = (x, refl)
-    get_at (x ∷ xs) (suc k) below = get_at xs k (omega arith)
 
 -- one place more without a seat
 pub slots_none : (three : Three) (slots : List (Option SeatShape)) → AreSlots three slots → AreSlots three (slots ++ None ∷ [])

@@ -1,3 +1,6 @@
+pub mod Accounts
+pub mod Crossing
+pub mod Fronts
 pub mod Gathered
 pub mod Giving
 pub mod Lists
@@ -8,5 +11,6 @@ pub mod Rotation
 pub mod SeatOpens
 pub mod Seated
 pub mod Taking
+pub mod Through
 pub mod WayFacts
 pub mod Working

@@ -38,7 +38,7 @@ zeroed_among number count (n ∷ numbers) is =
     ⊎_elim (λ e. rw e.0) (λ e. rw e.0 (zeroed_among number count numbers (rw e.0 at is))) (eqb_tells n number)
 
 -- the number of a route that leads to the stone is listed
-ends_listed : (stone first : ℕ) (routes : List Route) (place : ℕ) (route : Route) → slice_get routes place ≡ Some route
+pub ends_listed : (stone first : ℕ) (routes : List Route) (place : ℕ) (route : Route) → slice_get routes place ≡ Some route
     → last_stone route ≡ stone → (k : ℕ) × (slice_get (ending_from stone first routes) k ≡ Some (first + place))
 ends_listed stone first [] place route at last = absurd (cc)
 ends_listed stone first (r ∷ routes) zero route at last =

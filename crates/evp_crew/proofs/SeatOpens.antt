@@ -22,13 +22,13 @@ use Rattle.evp_crew.specs.Passes.{Giver, taken_by, given_at, given_on, given_by,
 use Rattle.evp_crew.specs.Seat.{TakesFor, IsSeat}
 use Rattle.evp_crew.specs.Ways.{before_last, giver_from, giver_number}
 
-before_snoc : (stones : List ℕ) (last : ℕ) → 0 < length stones → before_last (stones ++ last ∷ []) ≡ Some (last_of stones)
+pub before_snoc : (stones : List ℕ) (last : ℕ) → 0 < length stones → before_last (stones ++ last ∷ []) ≡ Some (last_of stones)
 before_snoc [] last some = absurd (omega arith)
 before_snoc (s ∷ []) last some = refl
 before_snoc (s ∷ t ∷ []) last some = refl
 before_snoc (s ∷ t ∷ u ∷ stones) last some = before_snoc (t ∷ u ∷ stones) last (omega arith)
 
-before_one : (stones : List ℕ) → length stones ≡ 1 → before_last stones ≡ None
+pub before_one : (stones : List ℕ) → length stones ≡ 1 → before_last stones ≡ None
 before_one [] one = refl
 before_one (s ∷ []) one = refl
 before_one (s ∷ t ∷ stones) one = absurd (omega arith)

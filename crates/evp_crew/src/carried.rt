@@ -1,5 +1,6 @@
 //! A job that was carried whole.
 ghost use Rattle.std.specs.Prelude.{IfOk};
+ghost use Rattle.evp_stone.specs.WholeAccounts.{AreAccounts};
 ghost use Rattle.evp_crew.specs.Carried.{AreFirst, IsCarried};
 ghost use Rattle.evp_crew.specs.Parting.{actors_of};
 ghost use Rattle.evp_crew.specs.Rota.{three};
@@ -49,9 +50,9 @@ impl Model for Carried {
       seat_code.the_row.coded,
     ) };
 
-    ghost use Rattle.evp_crew.specs.Whole.{HoldsWhole};
+    ghost use Rattle.evp_crew.specs.Whole.{carried_of, HoldsWhole};
 
-    ghost view = { λ c. record { crew = c.crew; seats = c.seats.items } };
+    ghost view = { carried_of };
 
     ghost invariant = { HoldsWhole };
 }
@@ -78,5 +79,23 @@ impl Carried {
             job: Snapshot::of(job),
             cache: Snapshot::of(cache),
         })
+    }
+
+    /// The accounts of the stones, in their order: those of the job's rounds. Takes no memory.
+    pub fn accounts(self) -> Vec<Account>
+        ensures { AreAccounts self.job result.items }
+    {
+        let Carried {
+            seats,
+            sources,
+            mut room,
+            ..
+        } = self;
+        for seat in seats {
+            if usize::from(seat.number()) >= sources {
+                room.push_reserved(seat.account());
+            }
+        }
+        room
     }
 }

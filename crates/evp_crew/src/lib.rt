@@ -3,6 +3,7 @@
 
 mod alone;
 mod carried;
+mod carrying;
 mod crew;
 mod gate;
 mod gathering;
@@ -18,6 +19,7 @@ mod ways;
 mod worker;
 
 pub use carried::Carried;
+pub use carrying::carry;
 pub use crew::Crew;
 pub use gate::{Gate, OpenGate};
 pub use rota::{Rota, RotaPass};

@@ -1,5 +1,12 @@
 //! Seats: actors with their passes.
 ghost use Rattle.std.specs.Prelude.{◌≡◌};
+ghost use Rattle.evp_cache.specs.Known.{Cells};
+ghost use Rattle.evp_stone.specs.Actor.{HasActed};
+ghost use Rattle.evp_stone.specs.Job.{IsJob};
+ghost use Rattle.evp_stone.specs.JobShape.{JobShape};
+ghost use Rattle.evp_stone.specs.Port.{Counting};
+ghost use Rattle.evp_stone.specs.Roles.{IsStones, IsStone, IsDone};
+ghost use Rattle.evp_stone.specs.Tallied.{IsAccount};
 ghost use Rattle.evp_stone.specs.Turned.{HasTurned};
 ghost use Rattle.evp_crew.specs.Passes.{counts_of};
 ghost use Rattle.evp_crew.specs.Seat.{IsSeat, IsOf};
@@ -8,7 +15,7 @@ use crate::crew::Crew;
 use crate::passes::Passes;
 use crate::port::CrewPort;
 use evp_cache::PlanCache;
-use evp_stone::{Actor, Job, Turn};
+use evp_stone::{Account, Actor, Job, Turn};
 use std::marker::Model;
 use std::mem;
 use std::snapshot::Snapshot;
@@ -84,5 +91,17 @@ impl Seat {
         let turn = self.actor.turn(job, cache, &mut port);
         self.passes = port.into_passes();
         turn
+    }
+
+    // The account of a stone's actor. Takes no memory.
+    pub(crate) fn account(self) -> Account
+        requires { IsStones self.actor.role }
+        ensures stone { IsStone self.actor.role result.stone }
+        ensures account { (job : JobShape) (cells : Cells) (taken given : Counting) → IsJob job
+            → HasActed job cells taken given self.actor → IsDone job self.actor.role
+            → IsAccount job result }
+    {
+        let Seat { actor, .. } = self;
+        actor.account()
     }
 }

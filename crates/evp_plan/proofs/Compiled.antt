@@ -1,7 +1,7 @@
 -- The loops that compile steps into cells, and gathers too.
 use Rattle.std.proofs.Common.{◌≡◌, ℕ, zero, suc, ◌+◌, ◌<◌, ◌≤◌, List, [], ◌∷◌, ◌++◌, length, take, get_or, set, refl, sym, ap, ◌∙◌}
 use Rattle.std.proofs.Common.{arith, add-one}
-use Rattle.std.specs.Prelude.{true, ◌||◌, nat_lt, nat_le}
+use Rattle.std.specs.Prelude.{Bool, true, ◌||◌, nat_lt, nat_le}
 use Rattle.std.proofs.lemmas.Bool.Decides.{nat_tests}
 use Rattle.evp_wide.specs.Masks.{are_within}
 use Rattle.evp_plan.specs.Clean.{is_clean_byte, is_clean}
@@ -61,36 +61,36 @@ bytes_next offset k cells made is pushed =
     pushed ∙ ap (λ (l : List Cell). l ++ Byte (offset + k) ∷ []) is ∙ sym (bytes_from-push offset k)
     ∙ ap (bytes_from offset) (sym (add-one k))
 
-get_or-blend_cells : (at : ℕ) (places keeps constants : List ℕ) (k p q r : ℕ) (d : Cell) → k < length places → length keeps ≡ length places
+get_or-blend_cells : (signed : Bool) (at : ℕ) (places keeps constants : List ℕ) (k p q r : ℕ) (d : Cell) → k < length places → length keeps ≡ length places
     → length constants ≡ length places
-    → get_or (blend_cells at places keeps constants) k d ≡ blend_cell at (get_or places k p) (get_or keeps k q) (get_or constants k r)
-get_or-blend_cells at [] keeps constants k p q r d below long long' = absurd (omega arith)
-get_or-blend_cells at (place ∷ places) [] constants k p q r d below long long' = absurd (omega (arith, long))
-get_or-blend_cells at (place ∷ places) (keep ∷ keeps) [] k p q r d below long long' = absurd (omega (arith, long'))
-get_or-blend_cells at (place ∷ places) (keep ∷ keeps) (constant ∷ constants) zero p q r d below long long' = refl
-get_or-blend_cells at (place ∷ places) (keep ∷ keeps) (constant ∷ constants) (suc k) p q r d below long long' =
-    get_or-blend_cells at places keeps constants k p q r d (omega (arith, below)) (omega (arith, long)) (omega (arith, long'))
+    → get_or (blend_cells signed at places keeps constants) k d ≡ blend_cell signed at (get_or places k p) (get_or keeps k q) (get_or constants k r)
+get_or-blend_cells signed at [] keeps constants k p q r d below long long' = absurd (omega arith)
+get_or-blend_cells signed at (place ∷ places) [] constants k p q r d below long long' = absurd (omega (arith, long))
+get_or-blend_cells signed at (place ∷ places) (keep ∷ keeps) [] k p q r d below long long' = absurd (omega (arith, long'))
+get_or-blend_cells signed at (place ∷ places) (keep ∷ keeps) (constant ∷ constants) zero p q r d below long long' = refl
+get_or-blend_cells signed at (place ∷ places) (keep ∷ keeps) (constant ∷ constants) (suc k) p q r d below long long' =
+    get_or-blend_cells signed at places keeps constants k p q r d (omega (arith, below)) (omega (arith, long)) (omega (arith, long'))
 
-pub blend_next : (at k p q r : ℕ) (places keeps constants : List ℕ) (cells made : List Cell) (cell : Cell) → k < 16 → length places ≡ 16
+pub blend_next : (signed : Bool) (at k p q r : ℕ) (places keeps constants : List ℕ) (cells made : List Cell) (cell : Cell) → k < 16 → length places ≡ 16
     → length keeps ≡ 16 → length constants ≡ 16
-    → cells ≡ take k (blend_cells at places keeps constants) → cell
-    ≡ blend_cell at (get_or places k p) (get_or keeps k q) (get_or constants k r) → made ≡ cells ++ cell ∷ []
-    → made ≡ take (k + 1) (blend_cells at places keeps constants)
-blend_next at k p q r places keeps constants cells made cell below long long' long'' is cell_is pushed =
-    let all = blend_cells at places keeps constants in
-    let whole : length all ≡ 16 = length-blend_cells at places keeps constants (long' ∙ sym long) (long'' ∙ sym long) ∙ long in
+    → cells ≡ take k (blend_cells signed at places keeps constants) → cell
+    ≡ blend_cell signed at (get_or places k p) (get_or keeps k q) (get_or constants k r) → made ≡ cells ++ cell ∷ []
+    → made ≡ take (k + 1) (blend_cells signed at places keeps constants)
+blend_next signed at k p q r places keeps constants cells made cell below long long' long'' is cell_is pushed =
+    let all = blend_cells signed at places keeps constants in
+    let whole : length all ≡ 16 = length-blend_cells signed at places keeps constants (long' ∙ sym long) (long'' ∙ sym long) ∙ long in
     pushed ∙ ap (λ (l : List Cell). l ++ cell ∷ []) is
     ∙ ap (λ (c : Cell). take k all ++ c ∷ [])
-    (cell_is ∙ sym (get_or-blend_cells at places keeps constants k p q r Keep (omega (arith, below, long)) (long' ∙ sym long)
+    (cell_is ∙ sym (get_or-blend_cells signed at places keeps constants k p q r Keep (omega (arith, below, long)) (long' ∙ sym long)
     (long'' ∙ sym long)))
     ∙ sym (take_more all k Keep (omega (arith, below, whole)))
 
-pub blend_end : (at k : ℕ) (places keeps constants : List ℕ) (cells : List Cell) → 16 ≤ k → length places ≡ 16 → length keeps ≡ 16
+pub blend_end : (signed : Bool) (at k : ℕ) (places keeps constants : List ℕ) (cells : List Cell) → 16 ≤ k → length places ≡ 16 → length keeps ≡ 16
     → length constants ≡ 16
-    → cells ≡ take k (blend_cells at places keeps constants) → cells ≡ blend_cells at places keeps constants
-blend_end at k places keeps constants cells past long long' long'' is =
-    let all = blend_cells at places keeps constants in
-    let whole : length all ≡ 16 = length-blend_cells at places keeps constants (long' ∙ sym long) (long'' ∙ sym long) ∙ long in
+    → cells ≡ take k (blend_cells signed at places keeps constants) → cells ≡ blend_cells signed at places keeps constants
+blend_end signed at k places keeps constants cells past long long' long'' is =
+    let all = blend_cells signed at places keeps constants in
+    let whole : length all ≡ 16 = length-blend_cells signed at places keeps constants (long' ∙ sym long) (long'' ∙ sym long) ∙ long in
     is ∙ take_all k all (omega (arith, past, whole))
 
 resized-push : (k : ℕ) (more : Cell) (cells : List Cell) → resized (suc k) more cells ≡ resized k more cells ++ get_or cells k more ∷ []

@@ -3,6 +3,7 @@ mod Alikes
 mod Arrays
 mod Conversions
 mod Defaults
+mod Each
 mod Examples
 mod Known
 mod Meaning

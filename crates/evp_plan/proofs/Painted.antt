@@ -19,13 +19,13 @@ use Rattle.evp_plan.specs.declared.step.Origin.{Origin}
 use Rattle.evp_plan.specs.declared.step.Origin.TheVariants.{Standing, Stated}
 use Rattle.evp_plan.specs.declared.step.Step.{Step}
 use Rattle.evp_plan.specs.Cells.{painted_at, overlaid, origin_cells, op_cells, steps_over, end_of, source_end, reach_of, is_plain_kind}
-use Rattle.evp_plan.specs.Cells.{is_plain_op, Moving, IsMovesOf}
+use Rattle.evp_plan.specs.Cells.{is_plain_op, Moving, AreMovesOver, IsMovesOf, IsWholeOf}
 use Rattle.evp_plan.specs.Moving.{moved, moved_op}
 use Rattle.evp_plan.specs.Sound.{IsSoundOp, IsSound}
-use Rattle.evp_plan.proofs.Gathered.{no_gather}
+use Rattle.evp_plan.proofs.Gathered.{no_gather, painted-zeros}
 use Rattle.std.proofs.lemmas.List.{length-replicate}
-use Rattle.std.specs.Prelude.{replicate}
-use Rattle.evp_plan.specs.declared.cell.Cell.TheVariants.{Keep}
+use Rattle.std.specs.Prelude.{replicate, IfOk, IfSome, Result, Ok, Err, Option, Some, None}
+use Rattle.evp_plan.specs.declared.cell.Cell.TheVariants.{Keep, Constant}
 use Rattle.evp_plan.specs.Program.{Program, inner_program, program_of}
 use Rattle.evp_plan.specs.Ready.{IsOriginThere, IsOpThere, IsReady}
 use Rattle.evp_plan.specs.Standing.{origin_number}
@@ -164,6 +164,38 @@ length-steps_over order from_order [] cells = refl
 length-steps_over order from_order (step ∷ steps) cells =
     length-steps_over order from_order steps (overlaid step.task.offset (op_cells order step.task.size from_order step.task.op) cells)
     ∙ length-overlaid step.task.offset (op_cells order step.task.size from_order step.task.op) cells
+
+-- moves over zeros make a whole record
+pub whole_over : (from_order order : Order) (steps : List Step) (moves : Moving) (count : ℕ)
+    → AreMovesOver from_order order steps (replicate count (Constant 0)) moves → end_of steps ≤ count → IsWholeOf from_order order steps moves
+whole_over from_order order steps moves count over fits =
+    let long : length moves.cells ≡ count = ap length over.cells
+    ∙ length-steps_over order from_order steps (replicate count (Constant 0)) ∙ length-replicate {A = Cell} count (Constant 0) in
+    let Over : ℕ → Type 0 = λ n. AreMovesOver from_order order steps (replicate n (Constant 0)) moves in
+    record { fits = omega (arith, long, fits); over = subst Over (sym long) over }
+
+pub whole_all : {E : Type 0} (from_order order : Order) (steps : List Step) (count : ℕ) (made : Result (Option Moving) E)
+    → IfOk made (λ some. IfSome some (AreMovesOver from_order order steps (replicate count (Constant 0)))) → end_of steps ≤ count
+    → IfOk made (λ some. IfSome some (IsWholeOf from_order order steps))
+whole_all from_order order steps count (Ok None) over fits = tt
+whole_all from_order order steps count (Ok (Some moves)) over fits = whole_over from_order order steps moves count over fits
+whole_all from_order order steps count (Err fault) over fits = tt
+
+-- what moves write that make a whole record, is what the steps put over zeros
+pub whole_make : (programs : List Program) (image : Image) (machine : Machine) (steps : List Step) (moves : Moving) (at after : ℕ)
+    (out : List ℕ) → IsWholeOf image.order machine.order steps moves → IsReady image (program_of programs steps) at
+    → AreBytes image.bytes → length moves.cells ≡ length out
+    → painted_at image.bytes at 0 moves.cells out
+    ≡ put_pieces (moved image machine (program_of programs steps) at 0 after).all (replicate (length out) 0)
+whole_make programs image machine steps moves at after out is ready are long =
+    let zeros = replicate (length moves.cells) (Constant 0) in
+    let zeros_long : length zeros ≡ length moves.cells = length-replicate {A = Cell} (length moves.cells) (Constant 0) in
+    let fits = is.fits in
+    let made = steps_painted programs image machine steps at 0 after zeros out is.over.plain ready are (omega (arith, fits, zeros_long))
+    (omega (arith, zeros_long, long)) in
+    ap (λ (c : List Cell). painted_at image.bytes at 0 c out) is.over.cells ∙ sym made.0
+    ∙ ap (put_pieces (moved image machine (program_of programs steps) at 0 after).all)
+    (painted-zeros image.bytes at (length moves.cells) out long)
 
 pub moves_long : (from_order order : Order) (steps : List Step) (moves : Moving) → IsMovesOf from_order order steps moves
     → length moves.cells ≡ end_of steps

@@ -2,7 +2,7 @@
 use Rattle.std.specs.Prelude.{◌≡◌, true, false, [], ◌∷◌, Some, None}
 use Rattle.std.proofs.Common.{refl, pos}
 use Rattle.evp_base.specs.declared.kind.Kind.TheVariants.{Int, Unsigned, Char, Boolean, Enumeration}
-use Rattle.evp_plan.specs.declared.step.Op.TheVariants.{Number, Text, Nest, Each, Many}
+use Rattle.evp_plan.specs.declared.step.Op.TheVariants.{Number, Text, Nest}
 use Rattle.evp_plan.specs.declared.step.Origin.TheVariants.{Standing, Stated}
 use Rattle.evp_plan.specs.declared.step.Part.TheVariants as part
 use Rattle.evp_plan.specs.declared.step.Step.{Step}

@@ -2,13 +2,16 @@
 -- at `at`.
 use Rattle.std.specs.Prelude.{◌≡◌, ℕ, zero, suc, ◌+◌, ◌-◌, ◌≤◌, Bool, true, false, nat_lt, nat_eq}
 use Rattle.std.specs.Prelude.{if◌then◌else◌, List, [], ◌∷◌, map, max, get_or, replicate, reverse}
-use Rattle.std.specs.Prelude.{slice_get, slice_index, Option, Some}
+use Rattle.std.specs.Prelude.{slice_get, slice_index, length, take, drop, ◌++◌, Option, Some}
 use Rattle.std.specs.List.{list_all}
 use Rattle.evp_base.specs.Numbers.{digits}
 use Rattle.evp_base.specs.declared.kind.Kind.{Kind}
 use Rattle.evp_base.specs.declared.kind.Kind.TheVariants.{Int, Unsigned, Char, Boolean, Enumeration}
 use Rattle.evp_base.specs.declared.order.Order.{Order}
 use Rattle.evp_base.specs.declared.order.Order.TheVariants.{Little, Big}
+pub use Rattle.evp_wide.specs.Gathered.{sign_byte}
+use Rattle.evp_wide.specs.Gathered.{gathered, signs_gathered, with_constant, with_kept}
+use Rattle.evp_wide.specs.declared.lanes.Blend.{Blend}
 use Rattle.evp_plan.specs.declared.cell.Cell.{Cell}
 use Rattle.evp_plan.specs.declared.gather.Gather.{Gather}
 use Rattle.evp_plan.specs.declared.step.Op.{Op}
@@ -17,10 +20,6 @@ use Rattle.evp_plan.specs.declared.step.Origin.{Origin}
 use Rattle.evp_plan.specs.declared.step.Origin.TheVariants.{Standing, Stated}
 use Rattle.evp_plan.specs.declared.step.Step.{Step}
 use Rattle.evp_plan.specs.declared.cell.Cell.TheVariants.{Keep, Constant, Byte, Sign}
-
--- 255 where the top bit of the byte is set, else 0
-abbrev pub sign_byte : ℕ → ℕ
-sign_byte byte = if nat_lt byte 128 then 0 else 255
 
 -- the byte that is made, where `old` stood
 abbrev pub cell_value : List ℕ → ℕ → Cell → ℕ → ℕ
@@ -40,6 +39,13 @@ abbrev pub painted_at : List ℕ → ℕ → ℕ → List Cell → List ℕ → 
 painted_at from at zero cells out = painted from at cells out
 painted_at from at (suc t) cells [] = []
 painted_at from at (suc t) cells (byte ∷ out) = byte ∷ painted_at from at t cells out
+
+-- the same for n records of the sender's, so many bytes apart from `at` on; those that are made stand
+-- `width` bytes apart, from t on
+abbrev pub painted_each : List ℕ → ℕ → ℕ → ℕ → ℕ → ℕ → List Cell → List ℕ → List ℕ
+painted_each from at stride t width zero cells out = out
+painted_each from at stride t width (suc n) cells out = painted_each from (at + stride) stride
+    (t + width) width n cells (painted_at from at t cells out)
 
 -- what is made by the first, where the second was made before
 abbrev pub over : Cell → Cell → Cell
@@ -102,22 +108,38 @@ constants bytes = map (λ byte. Constant byte) bytes
 
 -- ---- sixteen bytes at once
 
--- what is made where a gather picks the byte at that place, keeps those bits and sets these
-abbrev pub blend_cell : ℕ → ℕ → ℕ → ℕ → Cell
-blend_cell at place keep constant = if nat_lt place 16 then Byte (at + place)
+-- a byte of the sender's record, or its sign
+abbrev pub picked_cell : Bool → ℕ → Cell
+picked_cell false offset = Byte offset
+picked_cell true offset = Sign offset
+
+-- what is made where a gather picks the byte at that place, or its sign, keeps those bits and sets
+-- these
+abbrev pub blend_cell : Bool → ℕ → ℕ → ℕ → ℕ → Cell
+blend_cell signed at place keep constant = if nat_lt place 16 then picked_cell signed (at + place)
     else (if nat_eq keep 0 then Constant constant else Keep)
 
-abbrev pub blend_cells : ℕ → List ℕ → List ℕ → List ℕ → List Cell
-blend_cells at [] keeps constants = []
-blend_cells at (place ∷ places) [] constants = []
-blend_cells at (place ∷ places) (keep ∷ keeps) [] = []
-blend_cells at (place ∷ places) (keep ∷ keeps) (constant ∷ constants) = blend_cell at place keep
-    constant ∷ blend_cells at places keeps constants
+abbrev pub blend_cells : Bool → ℕ → List ℕ → List ℕ → List ℕ → List Cell
+blend_cells signed at [] keeps constants = []
+blend_cells signed at (place ∷ places) [] constants = []
+blend_cells signed at (place ∷ places) (keep ∷ keeps) [] = []
+blend_cells signed at (place ∷ places) (keep ∷ keeps) (constant ∷ constants) = blend_cell signed at
+    place keep constant ∷ blend_cells signed at places keeps constants
+
+-- the lanes that a gather picks of a window
+abbrev pub lanes : Bool → List ℕ → List ℕ → List ℕ
+lanes false places window = gathered places window
+lanes true places window = signs_gathered places window
+
+-- the bytes where a gather writes sixteen, of which it picked these
+abbrev pub written : List ℕ → Blend → ℕ → List ℕ → List ℕ
+written picked blend to out = take to out
+    ++ (with_constant (with_kept picked blend.keep (drop to out)) blend.constant ++ drop (to + 16) out)
 
 -- ---- gathers one after another
 
 abbrev pub gather_cells : Gather → List Cell
-gather_cells gather = blend_cells gather.at gather.blend.mask.places gather.blend.keep
+gather_cells gather = blend_cells gather.signed gather.at gather.blend.mask.places gather.blend.keep
     gather.blend.constant
 
 abbrev pub gathers_over : List Gather → List Cell → List Cell
@@ -193,11 +215,23 @@ is_plain_op (Nest offset) = false
 is_plain_op (Each count elements) = false
 is_plain_op (Many origin elements) = false
 
--- the moves make what these steps make, from a sender of this order
-pub record IsMovesOf (from_order order : Order) (steps : List Step) (moves : Moving) : Type 0 where
+-- the moves make what these steps make of a record's bytes that were made as these cells say before,
+-- from a sender of this order
+pub record AreMovesOver (from_order order : Order) (steps : List Step) (below : List Cell)
+    (moves : Moving) : Type 0 where
   pub plain : list_all (λ step. is_plain_op step.task.op) steps ≡ true
-  pub cells : moves.cells ≡ steps_over order from_order steps (replicate (end_of steps) Keep)
+  pub cells : moves.cells ≡ steps_over order from_order steps below
   pub reach : moves.reach ≤ reach_of steps
+
+-- the moves make what these steps make, and keep what stood between
+abbrev pub IsMovesOf : Order → Order → List Step → Moving → Type 0
+IsMovesOf from_order order steps moves =
+    AreMovesOver from_order order steps (replicate (end_of steps) Keep) moves
+
+-- the moves make what these steps make, and zeros between
+pub record IsWholeOf (from_order order : Order) (steps : List Step) (moves : Moving) : Type 0 where
+  pub fits : end_of steps ≤ length moves.cells
+  pub over : AreMovesOver from_order order steps (replicate (length moves.cells) (Constant 0)) moves
 
 -- those of each list of steps, where there are some
 abbrev pub AreMovesOf : Order → Order → List (List Step) → List (Option Moving) → Type 0

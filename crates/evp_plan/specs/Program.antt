@@ -1,5 +1,5 @@
 -- The steps of a plan with the inner steps that they refer to put in their place.
-use Rattle.std.specs.Prelude.{◌≡◌, ℕ, ◌<◌, List, [], ◌∷◌, ◌++◌, get_or, slice_get, Option, Some}
+use Rattle.std.specs.Prelude.{◌≡◌, ℕ, ◌-◌, ◌<◌, List, [], ◌∷◌, ◌++◌, length, get_or, slice_get, Option, Some}
 use Rattle.std.specs.Prelude.{None}
 use Rattle.evp_plan.specs.declared.step.Step.{Step}
 use Rattle.evp_plan.specs.declared.step.Task.{Task}
@@ -33,6 +33,10 @@ programs table = programs_behind [] table
 -- the program of the list of this number
 abbrev pub program_at : List (List Step) → ℕ → Program
 program_at table n = get_or (programs table) n no_steps
+
+-- the list that makes the record
+abbrev pub last_steps : List (List Step) → List Step
+last_steps table = get_or table (length table - 1) []
 
 -- inner steps stand before the steps that refer to them
 abbrev pub IsOrdered : List (List Step) → Type 0

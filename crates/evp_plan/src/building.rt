@@ -7,7 +7,7 @@ ghost use Rattle.evp_plan.specs.Counts.{raised};
 ghost use Rattle.evp_plan.specs.Faults.{IsBuildFault};
 ghost use Rattle.evp_plan.specs.Planned.{StandsFor};
 
-use crate::moves::all_moves;
+use crate::moves::{all_moves, whole_of};
 use crate::quiet::tests_in;
 use crate::table::table_of;
 use crate::{BuildFault, Builds, Plan};
@@ -49,6 +49,9 @@ fn plan_of(alloc: Global, from: &Format, to: &Format) -> Result<Plan, Memory>
     let _receiver = to.types();
     let table = table_of(alloc, from, to)?;
     let moves = all_moves(alloc, to.order(), from.order(), table.as_slice())?;
+    let last = table[table.len() - 1].as_slice();
+    let whole = whole_of(alloc, to.order(), from.order(), last, to.root().length)?;
     let tests = tests_in(alloc, table.as_slice())?;
-    Ok(Plan::new(to, table, *from == *to, from.order(), moves, tests))
+    let alike = *from == *to;
+    Ok(Plan::new(to, table, alike, from.order(), moves, whole, tests))
 }

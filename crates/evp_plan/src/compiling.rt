@@ -3,7 +3,6 @@
 ghost use Rattle.std.specs.Prelude.{◌≡◌, ◌+◌, ◌<◌, ◌≤◌, ◌^◌, true, length, get_or, replicate, IfOk};
 ghost use Rattle.std.specs.Prelude.{IfSome};
 ghost use Rattle.std.specs.List.{list_all};
-ghost use Rattle.evp_plan.specs.declared.cell.Cell.TheVariants.{Keep};
 ghost use Rattle.evp_plan.specs.Cells.{bytes_from, turned, resized, top_offset, filling};
 ghost use Rattle.evp_plan.specs.Cells.{number_cells, over, overlaid, blend_cell, gather_cells};
 ghost use Rattle.evp_plan.specs.Cells.{gathers_over, op_cells, steps_over, end_of, source_end};
@@ -109,13 +108,19 @@ fn lay_over(cells: &mut [Cell], place: usize, upper: &[Cell])
     }
 }
 
-// What is made where a gather picks the byte at that place, keeps those bits and sets these.
-fn blend_cell(at: u32, place: u8, keep: u8, constant: u8) -> Cell
+// What is made where a gather picks the byte at that place, or its sign, keeps those bits and sets
+// these.
+fn blend_cell(signed: bool, at: u32, place: u8, keep: u8, constant: u8) -> Cell
     requires { at + 16 < 2 ^ 32 }
-    ensures { result ≡ blend_cell at place keep constant }
+    ensures { result ≡ blend_cell signed at place keep constant }
 {
     if place < 16 {
-        Cell::Byte(at + u32::from(place))
+        let offset = at + u32::from(place);
+        if signed {
+            Cell::Sign(offset)
+        } else {
+            Cell::Byte(offset)
+        }
     } else if keep == 0 {
         Cell::Constant(constant)
     } else {
@@ -132,7 +137,8 @@ fn gather_cells(alloc: Global, gather: &Gather) -> Result<Vec<Cell>, Memory>
     let mut cells = Vec::with_capacity(alloc, 16)?;
     for k in 0..16usize {
         let place = blend.mask.places[k];
-        cells.push(blend_cell(gather.at, place, blend.keep[k], blend.constant[k]))?;
+        let (keep, constant) = (blend.keep[k], blend.constant[k]);
+        cells.push(blend_cell(gather.signed, gather.at, place, keep, constant))?;
     }
     Ok(cells)
 }
@@ -269,12 +275,12 @@ pub(crate) fn reach_of(steps: &[Step]) -> u64
     reach
 }
 
-// So many cells that keep what stood.
-pub(crate) fn kept(alloc: Global, count: usize) -> Result<Vec<Cell>, Memory>
+// So many cells of one kind.
+pub(crate) fn filled(alloc: Global, cell: Cell, count: usize) -> Result<Vec<Cell>, Memory>
     requires { count < 2 ^ 31 }
-    ensures { IfOk result (λ cells. cells.items ≡ replicate count Keep) }
+    ensures { IfOk result (λ cells. cells.items ≡ replicate count cell) }
 {
-    Ok(vec![in alloc; Cell::Keep; count]?)
+    Ok(vec![in alloc; cell; count]?)
 }
 
 // Whether two cells are equal.

@@ -6,14 +6,15 @@ ghost use Rattle.evp_plan.specs.Clean.{is_clean};
 use evp_wide::Blend;
 
 // Sixteen bytes of a receiver's record, each from a window of sixteen of the sender's, a constant,
-// or
-// left as it stood.
+// or left as it stood.
 #[derive(Clone, Copy, Debug)]
 pub(crate) struct Gather {
     // Bytes from the receiver's record's first byte.
     pub(crate) to: u32,
     // Bytes from the sender's record's first byte to the window.
     pub(crate) at: u32,
+    // Whether the signs of the window's bytes are picked, and not the bytes.
+    pub(crate) signed: bool,
     pub(crate) blend: Blend,
     ghost clean: { is_clean blend.mask.places blend.keep blend.constant ≡ true },
 }

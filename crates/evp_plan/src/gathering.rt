@@ -1,6 +1,6 @@
 //! Which gathers make a record's bytes.
 
-ghost use Rattle.std.specs.Prelude.{◌≡◌, ◌+◌, ◌<◌, ◌≤◌, ◌^◌, true, length, IfOk, IfSome};
+ghost use Rattle.std.specs.Prelude.{◌≡◌, ◌+◌, ◌<◌, ◌≤◌, ◌^◌, true, length, IfOk, OnOk, IfSome};
 ghost use Rattle.std.specs.List.{All};
 ghost use Rattle.evp_plan.specs.Cells.{IsGatherWithin};
 ghost use Rattle.evp_plan.specs.Clean.{is_clean, is_clean_byte};
@@ -19,43 +19,69 @@ struct Sixteen {
     constant: [u8; 16],
 }
 
-// The gathers that make these cells, as far as gathers do: one for each sixteen bytes.
+// The gathers that make these cells, as far as gathers do: for each sixteen bytes some.
 pub(crate) fn gathers_for(alloc: Global, cells: &[Cell], reach: u32) -> Result<Vec<Gather>, Memory>
     requires { length cells.now < 2 ^ 31 }
     ensures { IfOk result (λ gathers. All (IsGatherWithin (length cells.now) reach) gathers.items) }
 {
     let mut gathers = Vec::new(alloc);
-    if cells.len() < 16 {
+    if cells.len() < 16 || reach < 16 {
         return Ok(gathers);
     }
     let last = cells.len() - 16;
     for block in 0..cells.len() / 16 + 1 {
         let to = last.min(16 * block);
-        if let Some(gather) = gather_for(cells, to, reach) {
-            gathers.push(gather)?;
-        }
+        add_gathers(cells, to, reach, false, &mut gathers)?;
+        add_gathers(cells, to, reach, true, &mut gathers)?;
     }
     Ok(gathers)
 }
 
-// The gather that makes the sixteen cells from a place on, as far as one does.
-fn gather_for(cells: &[Cell], to: usize, reach: u32) -> Option<Gather>
+// The most windows of which sixteen bytes are made.
+const WINDOWS: u32 = 8;
+
+// Adds the gathers that make the sixteen cells from a place on, from windows that rise.
+fn add_gathers(
+    cells: &[Cell],
+    to: usize,
+    reach: u32,
+    signed: bool,
+    gathers: &mut Vec<Gather>,
+) -> Result<(), Memory>
     requires room { to + 16 ≤ length cells.now }
     requires few { length cells.now < 2 ^ 31 }
-    ensures { IfSome result (IsGatherWithin (length cells.now) reach) }
+    requires wide { 16 ≤ reach }
+    requires within { All (IsGatherWithin (length cells.now) reach) gathers.old.items }
+    ensures { OnOk result (All (IsGatherWithin (length cells.now) reach) gathers.new.items) }
 {
     let block = &cells[to..to + 16];
-    let at = window_of(block);
-    if reach < 16 || at > reach - 16 {
-        return None;
+    let mut begin = 0;
+    for window in 0..WINDOWS {
+        let first = first_picked(block, begin, signed);
+        // the first gather of bytes makes the constants too
+        if first.is_none() && (signed || window > 0) {
+            return Ok(());
+        }
+        let at = first.unwrap_or(0).min(reach - 16);
+        if let Some(gather) = gather_for(block, to as u32, at, signed) {
+            gathers.push(gather)?;
+        }
+        begin = at + 16;
     }
-    let sixteen = sixteen_of(block, at);
-    let Some(blend) = blend_of(&sixteen.places, &sixteen.keep, &sixteen.constant) else {
-        return None;
-    };
+    Ok(())
+}
+
+// The gather that makes of sixteen cells those that it can, by the window that begins there.
+fn gather_for(block: &[Cell], to: u32, at: u32, signed: bool) -> Option<Gather>
+    requires { length block.now ≡ 16 }
+    ensures { IfSome result (λ gather. (gather.to ≡ to) × (gather.at ≡ at)) }
+{
+    let sixteen = sixteen_of(block, at, signed);
+    let blend = blend_of(&sixteen.places, &sixteen.keep, &sixteen.constant)?;
     Some(Gather {
-        to: to as u32,
+        to,
         at,
+        signed,
         blend,
     })
 }
@@ -74,21 +100,37 @@ fn blend_of(places: &[u8; 16], keep: &[u8; 16], constant: &[u8; 16]) -> Option<B
     })
 }
 
-// Where the window begins whose last byte is the last that the cells pick.
-fn window_of(block: &[Cell]) -> u32 {
-    let mut at = 0;
+// The offset of which a gather of this kind picks the byte.
+fn picked(cell: Cell, signed: bool) -> Option<u32> {
+    match (cell, signed) {
+        (Cell::Byte(offset), false) | (Cell::Sign(offset), true) => Some(offset),
+        _ => None,
+    }
+}
+
+// The first offset from `begin` on of which a gather of this kind picks the byte.
+fn first_picked(block: &[Cell], begin: u32, signed: bool) -> Option<u32> {
+    let mut first = None;
     for cell in block {
-        if let Cell::Byte(offset) = cell {
-            if *offset >= 15 && *offset - 15 > at {
-                at = *offset - 15;
+        if let Some(offset) = picked(*cell, signed) {
+            if offset >= begin && offset < first.unwrap_or(u32::MAX) {
+                first = Some(offset);
             }
         }
     }
-    at
+    first
+}
+
+// The place in the window of the byte that the cell picks; 128 is none.
+fn place_of(cell: Cell, at: u32, signed: bool) -> u8 {
+    match picked(cell, signed) {
+        Some(offset) if offset >= at && offset - at < 16 => (offset - at) as u8,
+        _ => 128,
+    }
 }
 
 // What the cells pick, keep and set; one that does nothing of this is kept.
-fn sixteen_of(block: &[Cell], at: u32) -> Sixteen
+fn sixteen_of(block: &[Cell], at: u32, signed: bool) -> Sixteen
     requires { length block.now ≡ 16 }
 {
     let mut sixteen = Sixteen {
@@ -97,11 +139,10 @@ fn sixteen_of(block: &[Cell], at: u32) -> Sixteen
         constant: [0; 16],
     };
     for k in 0..16usize {
+        let place = place_of(block[k], at, signed);
         match block[k] {
-            Cell::Byte(offset) if offset >= at && offset - at < 16 => {
-                sixteen.places[k] = (offset - at) as u8;
-            }
-            Cell::Constant(byte) => sixteen.constant[k] = byte,
+            _ if place < 16 => sixteen.places[k] = place,
+            Cell::Constant(byte) if !signed => sixteen.constant[k] = byte,
             _ => sixteen.keep[k] = 0xff,
         }
     }

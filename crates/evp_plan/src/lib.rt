@@ -19,7 +19,7 @@ pub use build_fault::BuildFault;
 pub use building::build;
 pub use builds::Builds;
 pub use cell::Cell;
-pub use moves::Moves;
+pub use moves::{Moves, Series};
 pub use plan::Plan;
 pub use step::{Elements, Op, Origin, Part, Run, Source, Step, Steps, Task};
 

@@ -1,17 +1,28 @@
 //! Moves of a record's bytes, sixteen at once.
 
-ghost use Rattle.std.specs.Prelude.{◌≡◌, ◌+◌, ◌≤◌, ◌<◌, length, IfOk, IfSome};
+ghost use Rattle.std.specs.Prelude.{◌≡◌, ◌+◌, ◌*◌, ◌≤◌, ◌<◌, ℕ, length, drop, replicate, IfOk};
+ghost use Rattle.std.specs.Prelude.{IfSome};
 ghost use Rattle.std.specs.List.{All};
-ghost use Rattle.evp_plan.specs.Cells.{painted_at, IsMovesOf, AreMovesOf};
+ghost use Rattle.evp_plan.specs.Cells.{painted_at, painted_each, AreMovesOver, IsMovesOf};
+ghost use Rattle.evp_plan.specs.Cells.{lanes, written, IsWholeOf, AreMovesOf};
 
-use crate::compiling::{MOST, are_same, end_of, kept, lay_gathers, lay_steps, reach_of};
+use crate::compiling::{MOST, are_same, end_of, filled, lay_gathers, lay_steps, reach_of};
 use crate::gather::Gather;
 use crate::gathering::gathers_for;
-use crate::{Step, Steps};
+use crate::{Cell, Step, Steps};
 use evp_base::{Memory, Order};
-use evp_wide::gather_blend;
+use evp_wide::{gather_blend, gather_signs};
 use std::alloc::Global;
 use std::marker::Model;
+
+/// Where records stand side by side.
+#[derive(Clone, Copy, Debug)]
+pub struct Series {
+    /// The first byte of the first.
+    pub first: usize,
+    /// How many bytes each begins behind the one before.
+    pub apart: usize,
+}
 
 /// Moves that make the bytes of a receiver's record from those of a sender's.
 #[derive(Debug, Drop)]
@@ -37,8 +48,33 @@ impl Model for Moves {
     ghost invariant = { λ m. All (IsGatherWithin m.length m.reach) m.gathers.items };
 }
 
+// Makes sixteen bytes of the record at t from the sender's at `at`.
+#[inline(always)]
+fn run_gather(gather: &Gather, out: &mut [u8], t: usize, from: &[u8], at: usize)
+    requires window { at + gather.now.at + 16 ≤ length from.now }
+    requires room { t + gather.now.to + 16 ≤ length out.old }
+    ensures { out.new ≡ written (lanes gather.now.signed gather.now.blend.mask.places
+        (drop (at + gather.now.at) from.now)) gather.now.blend (t + gather.now.to) out.old }
+{
+    let to = t + gather.to as usize;
+    let at = at + gather.at as usize;
+    if gather.signed {
+        gather_signs(out, to, from, at, &gather.blend);
+        return;
+    }
+    gather_blend(out, to, from, at, &gather.blend);
+}
+
 impl Moves {
+    /// How many bytes they make.
+    pub fn length(&self) -> usize
+        ensures { result ≡ length self.now.cells }
+    {
+        self.length as usize
+    }
+
     /// Makes the bytes of `out` from t on, from the sender's record at `at`. Takes no memory.
+    #[inline(always)]
     pub fn run(&self, out: &mut [u8], t: usize, from: &[u8], at: usize)
         requires reach { at + self.now.reach ≤ length from.now }
         requires room { t + length self.now.cells ≤ length out.old }
@@ -46,14 +82,63 @@ impl Moves {
         ensures bytes { All (λ byte. byte < 256) from.now }
     {
         for gather in self.gathers.iter() {
-            let to = t + gather.to as usize;
-            gather_blend(out, to, from, at + gather.at as usize, &gather.blend);
+            run_gather(gather, out, t, from, at);
+        }
+    }
+
+    /// Makes the bytes of n records of `out`, each from one of the sender's records. Takes no memory.
+    pub fn run_each(&self, out: &mut [u8], to: Series, from: &[u8], at: Series, n: usize)
+        requires reach { (k : ℕ) → k < n
+            → at.first + k * at.apart + self.now.reach ≤ length from.now }
+        requires room { (k : ℕ) → k < n
+            → to.first + k * to.apart + length self.now.cells ≤ length out.old }
+        ensures { out.new ≡ painted_each from.now at.first at.apart to.first to.apart n
+            self.now.cells out.old }
+    {
+        for k in 0..n {
+            self.run(out, to.first + k * to.apart, from, at.first + k * at.apart);
         }
     }
 }
 
-// The moves that make what these steps make, from a sender of that order; none where gathers don't
-// make all of it.
+// The moves that make what these steps make of so many cells of one kind, from a sender of that
+// order; none where gathers don't make all of it.
+fn moves_over(
+    alloc: Global,
+    order: Order,
+    from: Order,
+    steps: &[Step],
+    below: Cell,
+    count: u32,
+) -> Result<Option<Moves>, Memory>
+    ensures { IfOk result (λ made. IfSome made (AreMovesOver from order steps.now
+        (replicate count below))) }
+{
+    let reach = reach_of(steps);
+    if count > MOST || reach > u64::from(MOST) {
+        return Ok(None);
+    }
+    let mut cells = filled(alloc, below, count as usize)?;
+    if !lay_steps(alloc, order, from, steps, cells.as_mut_slice())? {
+        return Ok(None);
+    }
+    let gathers = gathers_for(alloc, cells.as_slice(), reach as u32)?;
+    let mut made = filled(alloc, Cell::Keep, count as usize)?;
+    if !lay_gathers(alloc, gathers.as_slice(), made.as_mut_slice())? {
+        return Ok(None);
+    }
+    if !are_same(made.as_slice(), cells.as_slice()) {
+        return Ok(None);
+    }
+    Ok(Some(Moves {
+        gathers,
+        length: count,
+        reach: reach as u32,
+    }))
+}
+
+// The moves that make what these steps make, from a sender of that order, and keep what stood
+// between.
 fn moves_of(
     alloc: Global,
     order: Order,
@@ -63,31 +148,26 @@ fn moves_of(
     ensures { IfOk result (λ made. IfSome made (IsMovesOf from order steps.now)) }
 {
     let end = end_of(steps);
-    let reach = reach_of(steps);
-    if end > u64::from(MOST) || reach > u64::from(MOST) {
+    if end > u64::from(MOST) {
         return Ok(None);
     }
-    let mut cells = kept(alloc, end as usize)?;
-    if !lay_steps(alloc, order, from, steps, cells.as_mut_slice())? {
+    moves_over(alloc, order, from, steps, Cell::Keep, end as u32)
+}
+
+// The moves that make all of a record of so many bytes by these steps, and zeros between.
+pub(crate) fn whole_of(
+    alloc: Global,
+    order: Order,
+    from: Order,
+    steps: &[Step],
+    count: u32,
+) -> Result<Option<Moves>, Memory>
+    ensures { IfOk result (λ made. IfSome made (IsWholeOf from order steps.now)) }
+{
+    if end_of(steps) > u64::from(count) {
         return Ok(None);
     }
-    let length = cells.len();
-    if length > MOST as usize {
-        return Ok(None);
-    }
-    let gathers = gathers_for(alloc, cells.as_slice(), reach as u32)?;
-    let mut made = kept(alloc, length)?;
-    if !lay_gathers(alloc, gathers.as_slice(), made.as_mut_slice())? {
-        return Ok(None);
-    }
-    if !are_same(made.as_slice(), cells.as_slice()) {
-        return Ok(None);
-    }
-    Ok(Some(Moves {
-        gathers,
-        length: length as u32,
-        reach: reach as u32,
-    }))
+    moves_over(alloc, order, from, steps, Cell::Constant(0), count)
 }
 
 // The moves for each list of steps.

@@ -1,8 +1,8 @@
 //! Plans.
 
 ghost use Rattle.std.specs.Prelude.{◌≡◌, ◌<◌, ◌≤◌, [], length, get_or, IfSome};
-ghost use Rattle.evp_plan.specs.Cells.{IsMovesOf, AreMovesOf};
-ghost use Rattle.evp_plan.specs.Program.{IsOrdered, programs};
+ghost use Rattle.evp_plan.specs.Cells.{IsMovesOf, AreMovesOf, IsWholeOf};
+ghost use Rattle.evp_plan.specs.Program.{IsOrdered, programs, last_steps};
 ghost use Rattle.evp_plan.specs.Quiet.{tests_of, tests_in};
 
 use crate::{Moves, Step, Steps};
@@ -22,15 +22,17 @@ pub struct Plan {
     // all.
     sender: Order,
     moves: Vec<Option<Moves>>,
+    // The moves for the last list that make all of the record, where gathers do.
+    whole: Option<Moves>,
     // For each list of steps those that can refuse something or take a block.
     tests: Vec<Steps>,
 }
 
 impl Model for Plan {
-    ghost use Rattle.std.specs.Prelude.{◌≡◌, ◌≤◌, length};
+    ghost use Rattle.std.specs.Prelude.{◌≡◌, ◌≤◌, length, IfSome};
     ghost use Rattle.evp_plan.specs.Planned.{Planned};
-    ghost use Rattle.evp_plan.specs.Program.{IsOrdered};
-    ghost use Rattle.evp_plan.specs.Cells.{AreMovesOf};
+    ghost use Rattle.evp_plan.specs.Program.{IsOrdered, last_steps};
+    ghost use Rattle.evp_plan.specs.Cells.{AreMovesOf, IsWholeOf};
     ghost use Rattle.evp_plan.specs.Quiet.{tests_in};
 
     ghost Value = { Planned };
@@ -45,7 +47,8 @@ impl Model for Plan {
 
     ghost invariant = { λ p. IsOrdered p.table.items × ((1 ≤ length p.table.items)
         × (AreMovesOf p.sender p.order p.table.items p.moves.items
-        × (p.tests.items ≡ tests_in p.table.items))) };
+        × (IfSome p.whole (IsWholeOf p.sender p.order (last_steps p.table.items))
+        × (p.tests.items ≡ tests_in p.table.items)))) };
 }
 
 impl Plan {
@@ -58,11 +61,13 @@ impl Plan {
         alike: bool,
         sender: Order,
         moves: Vec<Option<Moves>>,
+        whole: Option<Moves>,
         tests: Vec<Steps>,
     ) -> Self
         requires ordered { IsOrdered table.items }
         requires some { 1 ≤ length table.items }
         requires made { AreMovesOf sender to.now.order table.items moves.items }
+        requires all { IfSome whole (IsWholeOf sender to.now.order (last_steps table.items)) }
         requires tests { tests.items ≡ tests_in table.items }
         ensures { result ≡ planned_of to.now table.items alike }
     {
@@ -74,6 +79,7 @@ impl Plan {
             alike,
             sender,
             moves,
+            whole,
             tests,
         }
     }
@@ -137,6 +143,22 @@ impl Plan {
             return None;
         }
         match &self.moves[number] {
+            Some(moves) => Some(moves),
+            None => None,
+        }
+    }
+
+    /// The moves that make all of the record from a sender of this order, where gathers do.
+    pub fn whole(&self, from: Order) -> Option<&Moves>
+        ensures moves { IfSome result (λ moves. IsWholeOf from self.now.order
+            (last_steps self.now.table) moves.now) }
+        ensures ordered { IsOrdered self.now.table }
+        ensures some { 1 ≤ length self.now.table }
+    {
+        if self.sender != from {
+            return None;
+        }
+        match &self.whole {
             Some(moves) => Some(moves),
             None => None,
         }

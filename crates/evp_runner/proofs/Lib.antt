@@ -7,5 +7,7 @@ mod Runs
 mod SideBySide
 mod Texts
 mod Painting
+mod QuickSizes
+mod Records
 mod Quieted
 mod Zeros

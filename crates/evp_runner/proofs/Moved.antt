@@ -28,7 +28,7 @@ use Rattle.evp_runner.specs.StepIn.{inside, CanMove, CanMoveStep, CanMoveList, C
 use Rattle.evp_runner.specs.StepIn.{IsSourceThere}
 use Rattle.evp_runner.proofs.Measured.{rest_of, no_rest}
 
-put_pieces-append : (first rest : List Piece) (bytes : List ℕ) → put_pieces (first ++ rest) bytes ≡ put_pieces rest (put_pieces first bytes)
+pub put_pieces-append : (first rest : List Piece) (bytes : List ℕ) → put_pieces (first ++ rest) bytes ≡ put_pieces rest (put_pieces first bytes)
 put_pieces-append [] rest bytes = refl
 put_pieces-append (piece ∷ first) rest bytes = put_pieces-append first rest (put_at piece.at piece.bytes bytes)
 

@@ -1,19 +1,24 @@
 -- A record whose bytes are all made by gathers.
-use Rattle.std.proofs.Common.{◌≡◌, ℕ, zero, suc, ◌+◌, ◌≤◌, List, [], ◌∷◌, length, get_or, Some, sym, ◌∙◌, subst, arith}
-use Rattle.std.specs.Prelude.{slice_get}
+use Rattle.std.proofs.Common.{◌≡◌, ℕ, zero, suc, ◌+◌, ◌-◌, ◌≤◌, List, [], ◌∷◌, length, get_or, Some, refl, sym, ap, ◌∙◌, subst, arith}
+use Rattle.std.specs.Prelude.{slice_get, replicate}
 use Rattle.evp_base.proofs.Digits.{AreBytes}
-use Rattle.evp_format.specs.Viewing.{Image}
+use Rattle.evp_format.specs.Layout.{Layout}
+use Rattle.evp_format.specs.Packing.{put_pieces}
+use Rattle.evp_format.specs.Viewing.{Image, image_of}
 use Rattle.evp_plan.specs.declared.step.Step.{Step}
-use Rattle.evp_plan.specs.Cells.{Moving, painted_at, end_of, IsMovesOf}
+use Rattle.evp_plan.specs.Cells.{Moving, painted_at, end_of, IsMovesOf, IsWholeOf}
 use Rattle.evp_plan.specs.Moving.{moved}
-use Rattle.evp_plan.specs.Planned.{Planned, machine_in}
-use Rattle.evp_plan.specs.Program.{Program, programs, program_of, program_at, IsOrdered}
+use Rattle.evp_plan.specs.Planned.{Planned, StandsFor, machine_in, whole_program}
+use Rattle.evp_plan.specs.Program.{Program, programs, program_of, program_at, last_steps, IsOrdered}
 use Rattle.evp_plan.specs.Ready.{IsReady}
 use Rattle.evp_plan.specs.Sound.{IsSound}
-use Rattle.evp_plan.proofs.Painted.{sound_end, moves_long, moves_make, reach_inside}
+use Rattle.evp_plan.proofs.Painted.{sound_end, moves_long, moves_make, whole_make, reach_inside}
 use Rattle.evp_plan.proofs.Programs.{program_at-steps}
+use Rattle.evp_record.specs.Record.{Record, IsRecord, value_of}
 use Rattle.evp_runner.specs.Pieces.{IsPut}
 use Rattle.evp_runner.specs.StepIn.{CanMove}
+use Rattle.evp_runner.proofs.Measured.{at_index}
+use Rattle.evp_runner.proofs.Runs.{viewed_as}
 
 pub found_or : (table : List (List Step)) (n : ℕ) (steps : List Step) → slice_get table n ≡ Some steps → get_or table n [] ≡ steps
 found_or [] n steps found = cc
@@ -73,3 +78,44 @@ paints_put plan image number moves at t size out out' p can are painted_is =
     let made = moves_make (programs plan.table) image (machine_in plan) p.steps moves at t size out p.is p.ready are room in
     let Put : Program → Type 0 = λ q. IsPut (moved image (machine_in plan) q at t size) size out out' in
     subst Put (sym p.program) (record { sized = made.1; put = painted_is ∙ made.0 })
+
+-- ---- a whole record
+
+-- what is known where the list that makes the record has moves
+pub record PaintsAll (plan : Planned) (image : Image) (moves : Moving) : Type 0 where
+  pub is : IsWholeOf image.order plan.order (last_steps plan.table) moves
+  pub ready : IsReady image (program_of (programs plan.table) (last_steps plan.table)) 0
+  pub program : whole_program plan ≡ program_of (programs plan.table) (last_steps plan.table)
+
+pub paints_all : (plan : Planned) (held : Record) (to : Layout) (image : Image) (moves : Moving) → StandsFor plan held.layout to
+    → IsRecord held → image ≡ image_of held.layout held.bytes → IsOrdered plan.table → 1 ≤ length plan.table
+    → IsWholeOf image.order plan.order (last_steps plan.table) moves → PaintsAll plan image moves
+paints_all plan held to image moves stands is image_is ordered some whole =
+    let found = at_index plan.table (length plan.table - 1) [] (omega (arith, some)) in
+    let program = program_at-steps plan.table (length plan.table - 1) (last_steps plan.table) ordered found in
+    let Ready : Program → Type 0 = λ p. IsReady image p 0 in
+    let Ready' : Image → Type 0 = λ i. IsReady i (whole_program plan) 0 in
+    record {
+      is = whole;
+      ready = subst Ready program (subst Ready' (sym image_is) (stands.reads held.bytes (value_of held) (viewed_as held is)));
+      program = program;
+    }
+
+pub all_reach : (plan : Planned) (image : Image) (moves : Moving) → PaintsAll plan image moves → 0 + moves.reach ≤ length image.bytes
+all_reach plan image moves p =
+    let reach = reach_inside (programs plan.table) image (last_steps plan.table) 0 (omega arith) p.ready in
+    let short = p.is.over.reach in
+    omega (arith, reach, short)
+
+pub all_put : (plan : Planned) (image : Image) (moves : Moving) (out new : List ℕ) → PaintsAll plan image moves → AreBytes image.bytes
+    → length moves.cells ≡ length out → new ≡ painted_at image.bytes 0 0 moves.cells out
+    → IsPut (moved image (machine_in plan) (whole_program plan) 0 0 plan.fixed)
+    (moved image (machine_in plan) (whole_program plan) 0 0 plan.fixed).size (replicate (length out) 0) new
+all_put plan image moves out new p are long painted_is =
+    let made = whole_make (programs plan.table) image (machine_in plan) (last_steps plan.table) moves 0 plan.fixed out p.is p.ready are long
+    in
+    record {
+      sized = refl;
+      put = painted_is ∙ made
+          ∙ ap (λ (q : Program). put_pieces (moved image (machine_in plan) q 0 0 plan.fixed).all (replicate (length out) 0)) (sym p.program);
+    }

@@ -1,6 +1,6 @@
 -- Numbers that stand side by side, put at once.
-use Rattle.std.proofs.Common.{◌≡◌, ◌≢◌, ℕ, zero, suc, ◌+◌, ◌*◌, ◌/◌, ◌%◌, ◌<◌, ◌≤◌, IsTrue, Bool, true, false, List, [], ◌∷◌, ◌++◌, length, take, drop, Option}
-use Rattle.std.proofs.Common.{Some, None, refl, sym, ap, ◌∙◌, subst, arith, rules}
+use Rattle.std.proofs.Common.{◌≡◌, ◌≢◌, ℕ, zero, suc, ◌+◌, ◌*◌, ◌/◌, ◌%◌, ◌<◌, ◌≤◌, IsTrue, false, List, [], ◌∷◌, ◌++◌, length, take, drop, Option}
+use Rattle.std.proofs.Common.{Some, None, refl, sym, ap, ◌∙◌, subst, arith}
 use denote.Enum.Bare.{sameb}
 use Rattle.evp_base.specs.contracts.kind.Kind.{the_type}
 use Rattle.std.specs.List.{flat_map}
@@ -14,18 +14,18 @@ use Rattle.evp_base.specs.declared.kind.Kind.{Kind}
 use Rattle.evp_base.specs.declared.kind.Kind.TheVariants.{Int, Unsigned, Char, Boolean, Enumeration}
 use Rattle.evp_base.proofs.Numbers.{length-digits}
 use Rattle.evp_format.specs.Bytes.{bytes_at, put_at}
-use Rattle.evp_format.specs.Packing.{Piece, Pieces, Machine, one_piece, then_pack, put_pieces}
+use Rattle.evp_format.specs.Packing.{Pieces, one_piece, put_pieces}
 use Rattle.evp_format.specs.Viewing.{Image}
 use Rattle.evp_plan.specs.declared.step.Elements.{Elements}
 use Rattle.evp_plan.specs.declared.step.Part.{Part}
 use Rattle.evp_plan.specs.declared.step.Part.TheVariants as part
 use Rattle.evp_plan.specs.declared.step.Run.{Run}
 use Rattle.evp_plan.specs.declared.step.Step.{Step}
-use Rattle.evp_plan.specs.Moving.{moved, moved_part, moved_elements, moved_element, source_place}
+use Rattle.evp_plan.specs.Moving.{moved, moved_part, moved_elements, source_place}
 use Rattle.evp_plan.specs.Planned.{Planned, machine_in}
 use Rattle.evp_plan.specs.Ready.{IsRunThere, AreElementsThere, IsReady}
-use Rattle.evp_plan.specs.Standing.{run_count, run_start, element_place}
-use Rattle.evp_wide.specs.Elements.{rewritten, AreReordered}
+use Rattle.evp_plan.specs.Standing.{run_count, run_start}
+use Rattle.evp_wide.specs.Elements.{AreReordered}
 use Rattle.evp_wide.specs.Groups.{groups, elements}
 use Rattle.evp_runner.specs.Pieces.{IsPut, IsPutOver}
 use Rattle.evp_runner.specs.StepIn.{inside, AreFew, AreSideBySide, AreNumbersThere, CanMoveList}

@@ -1,13 +1,15 @@
 -- A step of a plan at work on a sender's record.
-use Rattle.std.specs.Prelude.{◌≡◌, ◌≢◌, IsTrue, List, ℕ, ◌+◌, ◌*◌, ◌<◌, ◌≤◌, length, Option, Some, None, ⊤}
+use Rattle.std.specs.Prelude.{◌≡◌, ◌≢◌, IsTrue, List, [], ℕ, ◌+◌, ◌*◌, ◌<◌, ◌≤◌, length, get_or, Option, Some, None}
+use Rattle.std.specs.Prelude.{⊤}
 use Rattle.evp_base.specs.Numbers.{is_size_of}
 use Rattle.evp_base.specs.declared.kind.Kind.{Kind}
 use Rattle.evp_base.specs.declared.kind.Kind.TheVariants.{Boolean}
 use Rattle.evp_format.specs.Bytes.{bytes_at}
 use Rattle.evp_format.specs.Viewing.{Image}
 use Rattle.evp_plan.specs.declared.step.Step.{Step}
+use Rattle.evp_plan.specs.Cells.{Moving, IsMovesOf}
 use Rattle.evp_plan.specs.Planned.{Planned}
-use Rattle.evp_plan.specs.Program.{Program, inner_program, programs}
+use Rattle.evp_plan.specs.Program.{Program, inner_program, programs, IsOrdered}
 use Rattle.evp_plan.specs.declared.step.Elements.{Elements}
 use Rattle.evp_plan.specs.declared.step.Part.{Part}
 use Rattle.evp_plan.specs.declared.step.Part.TheVariants as part
@@ -184,3 +186,12 @@ abbrev pub IsElementThere : Image → ℕ → ℕ → Option Run → Type 0
 IsElementThere image at k None = ⊤
 IsElementThere image at k (Some run) = IsStartThere image run.pointed (at + run.offset)
     × (element_place image at run k ≤ length image.bytes)
+
+-- the elements are records that gathers make
+pub record AreRecordMoves (plan : Planned) (image : Image) (step : Step) (elements : Elements)
+    (moves : Moving) : Type 0 where
+  pub number : ℕ
+  pub part_is : elements.part ≡ part.Record
+  pub inner_is : step.inner ≡ Some number
+  pub ordered : IsOrdered plan.table
+  pub are : IsMovesOf image.order plan.order (get_or plan.table number []) moves

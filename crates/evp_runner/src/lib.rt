@@ -5,6 +5,7 @@ mod convert_fault;
 mod measuring;
 mod moving;
 mod passing;
+mod quick;
 mod reading;
 mod run_fault;
 mod running;

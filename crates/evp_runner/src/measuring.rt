@@ -212,7 +212,7 @@ fn measure_inside(
 }
 
 // Whether the sender has an array of another length.
-fn has_other_count(measure: &Measure, at: usize, n: u128, elements: &Elements) -> bool
+pub(crate) fn has_other_count(measure: &Measure, at: usize, n: u128, elements: &Elements) -> bool
     requires at_inside { at ≤ length measure.now.sender.bytes.now }
     requires there { IsCountThere (image_in measure.now.sender) at elements.now.run }
     ensures { result ≡ has_other_count (image_in measure.now.sender) at n elements.now.run }
@@ -304,7 +304,12 @@ fn measure_many(
 }
 
 // The size behind the block of n elements of this size, where the limit allows it.
-fn take_elements(measure: &Measure, n: u128, element_size: u32, size: usize) -> Option<usize>
+pub(crate) fn take_elements(
+    measure: &Measure,
+    n: u128,
+    element_size: u32,
+    size: usize,
+) -> Option<usize>
     requires some { 1 ≤ element_size }
     requires size_small { size < 2 ^ 32 }
     ensures value { result ≡ room_for measure.now.limit n element_size size }
@@ -336,7 +341,7 @@ fn is_quiet_inside(measure: &Measure, step: &Step) -> bool
 }
 
 // Whether no element of a step's array can be refused or takes a block.
-fn is_quiet(measure: &Measure, step: &Step, part: &Part) -> bool
+pub(crate) fn is_quiet(measure: &Measure, step: &Step, part: &Part) -> bool
     requires { IsInside measure.now.plan.now step.now }
     ensures { result ≡ is_quiet_part step.now.task.size part.now
         (is_quiet (inside measure.now.plan.now step.now)) }

@@ -9,22 +9,24 @@ ghost use Rattle.evp_format.specs.Packing.{pack_text};
 ghost use Rattle.evp_plan.specs.declared.step.Op.{Op};
 ghost use Rattle.evp_plan.specs.Moving.{moved, moved_op, moved_part, moved_elements, moved_many};
 ghost use Rattle.evp_plan.specs.Moving.{moved_count, moved_element, source_place, or_null};
+ghost use Rattle.evp_plan.specs.Cells.{painted_each};
 ghost use Rattle.evp_plan.specs.Planned.{machine_in};
 ghost use Rattle.evp_plan.specs.Program.{program_at};
-ghost use Rattle.evp_plan.specs.Ready.{IsTextBy, IsOriginThere};
-ghost use Rattle.evp_plan.specs.Standing.{text_by, ended, origin_number};
+ghost use Rattle.evp_plan.specs.Ready.{IsTextBy, IsOriginThere, IsStartThere};
+ghost use Rattle.evp_plan.specs.Standing.{text_by, ended, origin_number, run_start, element_place};
 ghost use Rattle.evp_wide.specs.Elements.{AreReordered};
 ghost use Rattle.evp_runner.specs.Pieces.{block_of, IsPut, IsPutOver};
 ghost use Rattle.evp_runner.specs.StepIn.{image_in, inside, IsEarlier, IsCountThere};
 ghost use Rattle.evp_runner.specs.StepIn.{IsElementThere, AreFew, IsTextSource, text_source};
 ghost use Rattle.evp_runner.specs.StepIn.{AreNumbersThere, AreSideBySide, BeginsThere};
+ghost use Rattle.evp_runner.specs.StepIn.{AreRecordMoves};
 ghost use Rattle.evp_runner.specs.StepIn.{first_place};
 ghost use Rattle.evp_runner.specs.StepIn.{CanMove, CanMoveStep, CanMoveList, CanMovePart};
 
 use crate::reading::{block_there, count_from, count_of, number_from, number_there, start_of};
 use crate::sender::Sender;
 use evp_base::{Kind, Order, put_number};
-use evp_plan::{Elements, Op, Origin, Part, Plan, Run, Step};
+use evp_plan::{Elements, Moves, Op, Origin, Part, Plan, Run, Series, Step};
 use evp_wide::reorder;
 
 // A conversion that is written: the plan and the sender's record.
@@ -343,6 +345,49 @@ fn put_numbers(work: &Move, size: u32, bytes: &[u8], out: &mut [u8], base: usize
     reorder(place, work.plan.order(), bytes, work.sender.order, size);
 }
 
+// The moves that make each element of an array, where they are records that gathers make.
+fn record_moves<'a>(work: &Move<'a>, step: &Step, elements: &Elements) -> Option<&'a Moves>
+    ensures { IfSome result (λ moves. AreRecordMoves work.now.plan.now (image_in work.now.sender)
+        step.now elements.now moves.now) }
+{
+    let Part::Record = elements.part else {
+        return None;
+    };
+    let Some(inner) = step.inner else {
+        return None;
+    };
+    let _table = work.plan.table();
+    work.plan.moves(inner as usize, work.sender.order)
+}
+
+// n records, each from one of the sender's array.
+fn put_records(
+    work: &Move,
+    moves: &Moves,
+    run: &Run,
+    at: usize,
+    n: usize,
+    out: &mut [u8],
+    to: Series,
+)
+    requires at_inside { at ≤ length work.now.sender.bytes.now }
+    requires begins { IsStartThere (image_in work.now.sender) run.now.pointed
+        (at + run.now.offset) }
+    requires reach { (k : ℕ) → k < n → element_place (image_in work.now.sender) at run.now k
+        + moves.now.reach ≤ length work.now.sender.bytes.now }
+    requires room { (k : ℕ) → k < n → to.first + k * to.apart + length moves.now.cells
+        ≤ length out.old }
+    ensures { out.new ≡ painted_each work.now.sender.bytes.now
+        (run_start (image_in work.now.sender) at run.now) run.now.stride to.first to.apart n
+        moves.now.cells out.old }
+{
+    let from = Series {
+        first: start_of(&work.sender, at, run),
+        apart: run.stride as usize,
+    };
+    moves.run_each(out, to, work.sender.bytes, from, n);
+}
+
 // n elements, the first at `base`.
 #[cycle(moving)]
 fn move_elements(
@@ -377,6 +422,16 @@ fn move_elements(
     if let Some(bytes) = side_by_side(work, step.task.size, elements, at, n as usize) {
         put_numbers(work, step.task.size, bytes, out, base);
         return size;
+    }
+    if let Some(run) = &elements.run {
+        if let Some(moves) = record_moves(work, step, elements) {
+            let to = Series {
+                first: base,
+                apart: step.task.size as usize,
+            };
+            put_records(work, moves, run, at, n as usize, out, to);
+            return size;
+        }
     }
     let first = first_place(work, at, &elements.run);
     let mut size = size;

@@ -1,7 +1,7 @@
 //! Running plans.
 
-ghost use Rattle.std.specs.Prelude.{◌≡◌, ◌*◌, ◌^◌, ◌<◌, ◌≤◌, IsTrue, length, replicate, IfOk};
-ghost use Rattle.std.specs.Prelude.{IfErr};
+ghost use Rattle.std.specs.Prelude.{◌≡◌, ◌*◌, ◌^◌, ◌<◌, ◌≤◌, IsTrue, length, replicate, IfOk, IfSome};
+ghost use Rattle.std.specs.Prelude.{IfErr, Ok};
 ghost use Rattle.evp_base.specs.Numbers.{is_width};
 ghost use Rattle.evp_format.specs.Converting.{convert};
 ghost use Rattle.evp_format.specs.Layout.{Layout};
@@ -15,6 +15,7 @@ ghost use Rattle.evp_runner.specs.StepIn.{image_in};
 use crate::ConvertFault;
 use crate::measuring::{Measure, measure_record};
 use crate::moving::{Move, move_record};
+use crate::quick::quick_record;
 use crate::sender::{Sender, are_bytes};
 use evp_format::Place;
 use evp_plan::Plan;
@@ -24,7 +25,48 @@ use evp_record::Checked;
 /// place there: `Unfit` and `Large` exactly as the conversion has them. The plan is one for records
 /// of this format. Takes no memory. It calls itself once for each level of nested types, at most
 /// 16.
+#[inline(always)]
 pub fn measure(plan: &Plan, item: Checked, limit: u32) -> Result<u32, ConvertFault>
+    requires { IsPlanFrom plan.now item.layout }
+    ensures value { (to : Layout) → StandsFor plan.now item.entry.layout to
+        → result ≡ outcome (convert to (value_of item.entry) limit) }
+    ensures size { IfOk result (λ size. IsSizeOf plan.now item.entry size) }
+{
+    let _held = item.bytes();
+    match quick_whole(plan, &item, limit) {
+        Some(size) => Ok(size),
+        None => measure_fully(plan, item, limit),
+    }
+}
+
+// The packed size, where it is easily seen that nothing is refused.
+fn quick_whole(plan: &Plan, item: &Checked, limit: u32) -> Option<u32>
+    requires { IsPlanFrom plan.now item.now.layout }
+    ensures { IfSome result (λ size. Ok size
+        ≡ outcome (measured_whole plan.now (image_of item.now.layout item.now.bytes) limit)) }
+{
+    if plan.fixed() > limit {
+        return None;
+    }
+    let _held = item.bytes();
+    let sender = sender_of(item);
+    let measure = Measure {
+        plan,
+        sender,
+        limit,
+    };
+    let lists = plan.table();
+    let count = lists.len();
+    match quick_record(&measure, count - 1, 0, plan.fixed() as usize) {
+        Some(size) => Some(size as u32),
+        None => None,
+    }
+}
+
+// The same as `measure`, with the place of a fault. Apart from it, since room for a fault is made
+// of zeros first.
+#[inline(never)]
+fn measure_fully(plan: &Plan, item: Checked, limit: u32) -> Result<u32, ConvertFault>
     requires { IsPlanFrom plan.now item.layout }
     ensures value { (to : Layout) → StandsFor plan.now item.entry.layout to
         → result ≡ outcome (convert to (value_of item.entry) limit) }
@@ -80,9 +122,15 @@ pub fn run_into(plan: &Plan, item: Checked, out: &mut [u8])
     requires size { IsSizeOf plan.now item (length out.old) }
     ensures { AreConverted plan.now item.entry out.new }
 {
-    clear(out);
     let _held = item.bytes();
     let sender = sender_of(&item);
+    if let Some(moves) = plan.whole(sender.order) {
+        if moves.length() == out.len() {
+            moves.run(out, 0, sender.bytes, 0);
+            return;
+        }
+    }
+    clear(out);
     let work = Move { plan, sender };
     let lists = plan.table();
     let count = lists.len();

@@ -37,7 +37,7 @@ shuffled bytes mask long places =
     ∙ rw zero-add (lane bytes k (get_or mask k 0) (omega arith) (places k 0 within))
     ∙ sym (get_or-map (picked bytes) mask k 0 0 within))
 
-put_sixteen : (to : ℕ) (out block : List ℕ) → to + 16 ≤ length out → length block ≡ 16 → put_chunk to out block ≡ take to out
+pub put_sixteen : (to : ℕ) (out block : List ℕ) → to + 16 ≤ length out → length block ≡ 16 → put_chunk to out block ≡ take to out
     ++ (block ++ drop (to + 16) out)
 put_sixteen to out block room sixteen =
     put_chunk_is to out block (omega arith)

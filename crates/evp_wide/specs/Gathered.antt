@@ -11,6 +11,14 @@ picked bytes place = if nat_lt place 16 then slice_index bytes place else 0
 abbrev pub gathered : List ℕ → List ℕ → List ℕ
 gathered mask bytes = map (picked bytes) mask
 
+-- 255 where the top bit of the byte is set, else 0
+abbrev pub sign_byte : ℕ → ℕ
+sign_byte byte = if nat_lt byte 128 then 0 else 255
+
+-- the signs of the bytes that the mask picks, and 0 where it picks none
+abbrev pub signs_gathered : List ℕ → List ℕ → List ℕ
+signs_gathered mask bytes = map sign_byte (gathered mask bytes)
+
 -- each place is one of the window, or 128 or more
 abbrev pub ArePlaces : List ℕ → Type 0
 ArePlaces mask = All (λ place. (place < 16) ⊎ (128 ≤ place)) mask

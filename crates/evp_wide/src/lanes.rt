@@ -1,6 +1,7 @@
 //! Sixteen bytes at once, each one of sixteen others or 0.
 ghost use Rattle.std.specs.Prelude.{◌≡◌, ◌+◌, ◌<◌, ◌≤◌, ◌++◌, true, length, take, drop};
-ghost use Rattle.evp_wide.specs.Gathered.{gathered, with_constant, with_kept, ArePlaces};
+ghost use Rattle.evp_wide.specs.Gathered.{gathered, signs_gathered, with_constant, with_kept};
+ghost use Rattle.evp_wide.specs.Gathered.{ArePlaces};
 ghost use Rattle.evp_wide.specs.Masks.{are_within};
 
 use std::simd::prelude::*;
@@ -80,6 +81,29 @@ pub fn gather_blend(out: &mut [u8], to: usize, from: &[u8], at: usize, blend: &B
     let picked = window.swizzle_dyn_within::<16>(u8x16::from_array(blend.mask.places));
     let kept = stood & u8x16::from_array(blend.keep);
     let whole = picked | kept | u8x16::from_array(blend.constant);
+    whole.copy_to_slice(&mut out[to..]);
+}
+
+/// The same with the signs of the bytes that are picked: 0xff where the top bit is set, else 0. Takes
+/// no memory.
+#[inline(always)]
+pub fn gather_signs(out: &mut [u8], to: usize, from: &[u8], at: usize, blend: &Blend)
+    requires window { at + 16 ≤ length from.now }
+    requires room { to + 16 ≤ length out.old }
+    ensures { out.new
+        ≡ take to out.old
+        ++ (with_constant (with_kept (signs_gathered blend.now.mask.places (drop at from.now))
+        blend.now.keep (drop to out.old)) blend.now.constant
+        ++ drop (to + 16) out.old) }
+{
+    let window = u8x16::from_slice(&from[at..]);
+    let stood = u8x16::from_slice(&out[to..]);
+    let picked = window.swizzle_dyn_within::<16>(u8x16::from_array(blend.mask.places));
+    let signs = picked
+        .simd_lt(u8x16::splat(128))
+        .select(u8x16::splat(0), u8x16::splat(255));
+    let kept = stood & u8x16::from_array(blend.keep);
+    let whole = signs | kept | u8x16::from_array(blend.constant);
     whole.copy_to_slice(&mut out[to..]);
 }
 

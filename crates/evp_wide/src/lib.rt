@@ -7,7 +7,7 @@ mod orders;
 mod swap;
 mod widen;
 
-pub use lanes::{Blend, Mask, gather, gather_blend, gather_or};
+pub use lanes::{Blend, Mask, gather, gather_blend, gather_or, gather_signs};
 pub use orders::reorder;
 pub use swap::{swap2, swap4, swap8};
 pub use widen::{widen_signed, widen_unsigned};

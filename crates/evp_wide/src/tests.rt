@@ -103,3 +103,30 @@ fn a_mask_picks_from_its_window(rt: HostRuntime) -> Result<(), Fail> {
     );
     Ok(())
 }
+
+#[test]
+fn signs_fill_bytes(rt: HostRuntime) -> Result<(), Fail> {
+    let from = [
+        0x7f, 0x80, 0xff, 0, 4, 5, 6, 7, 8, 9, 10, 11, 12, 13, 14, 0x90,
+    ];
+    let mut blend = Blend {
+        mask: Mask {
+            places: [
+                0, 1, 2, 3, 15, 1, 128, 255, 128, 128, 128, 128, 128, 128, 128, 128,
+            ],
+        },
+        keep: [0; 16],
+        constant: [0; 16],
+    };
+    blend.keep[7] = 0xff;
+    blend.constant[8] = 7;
+    let mut out = [0x11; 17];
+    gather_signs(&mut out, 1, &from, 0, &blend);
+    assert_eq!(rt;
+        out,
+        [
+            0x11, 0, 0xff, 0xff, 0, 0xff, 0xff, 0, 0x11, 7, 0, 0, 0, 0, 0, 0, 0,
+        ]
+    );
+    Ok(())
+}

@@ -10,12 +10,13 @@ use Rattle.evp_plan.specs.Ready.{IsOpThere, IsReady}
 use Rattle.evp_plan.specs.Sound.{IsSoundOp, IsSound}
 use Rattle.evp_plan.specs.Standing.{origin_number}
 use Rattle.evp_runner.specs.Pieces.{IsPut}
-use Rattle.evp_runner.specs.StepIn.{image_in, inside}
+use Rattle.evp_runner.specs.StepIn.{image_in, inside, AreRecordMoves}
 use Rattle.evp_runner.proofs.Measured.{found_steps, at_index, own_index, some_bytes}
 use Rattle.evp_runner.proofs.Moved.{begins_there, rest_moved, step_fits, step_next, moving_end, steps_end, record_moved, can_move_each, element_one}
 use Rattle.evp_runner.proofs.Moved.{one_grows, element_fits, element_moved, elements_end, can_move_part, few_of, most_of, element_room}
 use Rattle.evp_runner.proofs.Moved.{list_moved, many_fits, many_put}
-use Rattle.evp_runner.proofs.SideBySide.{numbers_there, numbers_moved, side_long, side_width, side_whole}
+use Rattle.evp_runner.proofs.SideBySide.{numbers_there, numbers_moved}
+use Rattle.evp_runner.proofs.Records.{run_begins, records_reach, records_room, records_put}
 use Rattle.evp_runner.proofs.Painting.{paints, paints_reach, paints_cells, paints_put}
 use Rattle.evp_runner.proofs.moving.+moving.Goals as goal
 
@@ -342,3 +343,42 @@ move_elements-returns-in-Some t c =
 pub move_elements-first_place-first-requires-clause-there : goal.move_elements-first_place-first-requires-clause-there
 move_elements-first_place-first-requires-clause-there t c =
     begins_there c.args.work.now.plan.now (image_in c.args.work.now.sender) c.args.step.now c.args.elements.now c.args.at c.requires.can
+
+pub move_elements-put_records-requires-clause-begins : goal.move_elements-put_records-requires-clause-begins
+move_elements-put_records-requires-clause-begins t c =
+    run_begins c.args.work.now.plan.now (image_in c.args.work.now.sender) c.args.step.now c.args.elements.now c.in-Some-run.run' c.args.at
+    c.in-Some-run.is c.requires.can
+
+pub move_elements-put_records-requires-clause-reach : goal.move_elements-put_records-requires-clause-reach
+move_elements-put_records-requires-clause-reach t c =
+    let plan = c.args.work.now.plan.now in
+    let image = image_in c.args.work.now.sender in
+    let moves = c.in-Some-record_moves.moves.now in
+    let r : AreRecordMoves plan image c.args.step.now c.args.elements.now moves = c.in-Some-record_moves.ensures in
+    let low = c.requires.earlier r.number r.inner_is in
+    let known = c.requires.known in
+    records_reach plan image c.args.step.now c.args.elements.now c.in-Some-run.run' moves c.args.at c.args.base c.args.n
+    (length c.args.out.now) r (omega (arith, low, known)) c.in-Some-run.is c.requires.can c.requires.few c.requires.room
+
+pub move_elements-put_records-requires-clause-room : goal.move_elements-put_records-requires-clause-room
+move_elements-put_records-requires-clause-room t c =
+    let plan = c.args.work.now.plan.now in
+    let image = image_in c.args.work.now.sender in
+    let moves = c.in-Some-record_moves.moves.now in
+    let r : AreRecordMoves plan image c.args.step.now c.args.elements.now moves = c.in-Some-record_moves.ensures in
+    let low = c.requires.earlier r.number r.inner_is in
+    let known = c.requires.known in
+    records_room plan image c.args.step.now c.args.elements.now c.in-Some-run.run' moves c.args.at c.args.base c.args.n
+    (length c.args.out.now) r (omega (arith, low, known)) c.in-Some-run.is c.requires.can c.requires.few c.requires.room
+
+pub move_elements-returns-in-Some-record_moves : goal.move_elements-returns-in-Some-record_moves
+move_elements-returns-in-Some-record_moves t c =
+    let plan = c.args.work.now.plan.now in
+    let image = image_in c.args.work.now.sender in
+    let moves = c.in-Some-record_moves.moves.now in
+    let r : AreRecordMoves plan image c.args.step.now c.args.elements.now moves = c.in-Some-record_moves.ensures in
+    let low = c.requires.earlier r.number r.inner_is in
+    let known = c.requires.known in
+    records_put plan image c.args.step.now c.args.elements.now c.in-Some-run.run' moves c.args.at c.args.base c.args.n c.args.size
+    c.args.out.now c.put_records.new.out r (omega (arith, low, known)) c.in-Some-run.is c.requires.can c.requires.few
+    c.args.work.now.sender.are c.requires.room c.put_records.ensures

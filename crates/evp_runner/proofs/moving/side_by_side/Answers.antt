@@ -1,4 +1,4 @@
-use Rattle.std.proofs.Common.{◌≡◌, ◌+◌, ◌*◌, ◌≤◌, ap, refl, arith}
+use Rattle.std.proofs.Common.{◌*◌, refl, arith}
 use Rattle.evp_runner.specs.StepIn.{image_in}
 use Rattle.evp_runner.proofs.SideBySide.{side_there, side_is}
 use Rattle.evp_runner.proofs.moving.side_by_side.Goals as goal

@@ -15,8 +15,8 @@ loop-gather-init c = (
   λ k. omega (arith, c.type_inv.out k),
 )
 
-pub gather_blend-requires-clause-window : goal.gather_blend-requires-clause-window
-gather_blend-requires-clause-window c =
+pub run_gather-requires-clause-window : goal.run_gather-requires-clause-window
+run_gather-requires-clause-window c =
     let within = one_within c.self.inside.length c.self.inside.reach c.self.inside.gathers.items c.deref-gather-items.result.now
     c.loop-gather.gather-index c.gather-item.result c.deref-gather-items.ensures.value
     c.loop-gather-test.true c.gather-item.is c.self.invariant in
@@ -24,8 +24,8 @@ gather_blend-requires-clause-window c =
     let fits = c.requires.reach in
     omega (arith, within.1, reach, fits)
 
-pub gather_blend-requires-clause-room : goal.gather_blend-requires-clause-room
-gather_blend-requires-clause-room c =
+pub run_gather-requires-clause-room : goal.run_gather-requires-clause-room
+run_gather-requires-clause-room c =
     let within = one_within c.self.inside.length c.self.inside.reach c.self.inside.gathers.items c.deref-gather-items.result.now
     c.loop-gather.gather-index c.gather-item.result c.deref-gather-items.ensures.value
     c.loop-gather-test.true c.gather-item.is c.self.invariant in
@@ -46,10 +46,10 @@ loop-gather-preserved c =
     let whole = length-replicate {A = Cell} (length c.args.self.now.cells) Keep in
     let fits = c.requires.room in (
       next_gather c.args.from.now c.args.at c.args.t c.loop-gather.gather-index c.deref-gather-items.result.now g
-          (replicate (length c.args.self.now.cells) Keep) c.args.out.now c.loop-gather.out c.gather_blend.new.out
+          (replicate (length c.args.self.now.cells) Keep) c.args.out.now c.loop-gather.out c.run_gather.new.out
           (bytes_are c.loop-gather.out c.loop-gather.invariant.1) c.loop-gather-test.true c.gather-item.is g.clean g.blend.mask.sixteen
           g.blend.keeps g.blend.sets (omega (arith, within.0, long, whole)) (omega (arith, whole, fits))
-          c.loop-gather.invariant.0 c.gather_blend.ensures,
+          c.loop-gather.invariant.0 c.run_gather.ensures,
       λ k. omega (arith, c.type_inv.out k),
     )
 

@@ -1,0 +1,118 @@
+//! Measuring without places: the packed size of a record whose fields are easily seen to refuse
+//! nothing. What names a fault is `measuring`.
+
+ghost use Rattle.std.specs.Prelude.{◌≡◌, ◌<◌, ◌≤◌, ◌^◌, [], length, IfSome, Ok};
+ghost use Rattle.evp_plan.specs.Measuring.{measured};
+ghost use Rattle.evp_plan.specs.Program.{program_at};
+ghost use Rattle.evp_plan.specs.Ready.{IsTextBy, IsOriginThere};
+ghost use Rattle.evp_runner.specs.Outcome.{outcome};
+ghost use Rattle.evp_runner.specs.Passable.{StepPasses, ListPasses, TextPasses};
+ghost use Rattle.evp_runner.specs.StepIn.{image_in, CanRun, CanStep, CanList, IsInside};
+
+use crate::measuring::{Measure, has_other_count, is_quiet, take_elements};
+use crate::reading::{number_from, text_there};
+use evp_base::fits;
+use evp_plan::{Elements, Op, Origin, Step};
+
+// The size behind the text whose pointer stands at s, where the limit allows it.
+fn quick_text(measure: &Measure, s: usize, size: usize) -> Option<usize>
+    requires there { IsTextBy (image_in measure.now.sender) s }
+    requires size_small { size < 2 ^ 32 }
+    ensures passes { IfSome result (λ end. TextPasses measure.now.limit (image_in measure.now.sender) s
+        size end) }
+    ensures bound { IfSome result (λ end. end < 2 ^ 32) }
+{
+    let Some(text) = text_there(&measure.sender, s) else {
+        return Some(size);
+    };
+    let end = (size + 7) / 8 * 8 + text.len() + 1;
+    if end > measure.limit as usize {
+        return None;
+    }
+    Some(end)
+}
+
+// The size behind a counted array of elements that refuse nothing and take no block.
+fn quick_many(
+    measure: &Measure,
+    step: &Step,
+    origin: &Origin,
+    elements: &Elements,
+    at: usize,
+    size: usize,
+) -> Option<usize>
+    requires at_inside { at ≤ length measure.now.sender.bytes.now }
+    requires size_small { size < 2 ^ 32 }
+    requires counted { IsOriginThere (image_in measure.now.sender) at origin.now }
+    requires can { CanList measure.now.plan.now (image_in measure.now.sender) step.now elements.now
+        at 0 }
+    requires inside { IsInside measure.now.plan.now step.now }
+    ensures passes { IfSome result (λ end. ListPasses measure.now.plan.now measure.now.limit
+        (image_in measure.now.sender) step.now origin.now elements.now at size end) }
+    ensures bound { IfSome result (λ end. end < 2 ^ 32) }
+{
+    let wanted = number_from(&measure.sender, at, origin);
+    if wanted < 0 {
+        return None;
+    }
+    if has_other_count(measure, at, wanted as u128, elements) {
+        return None;
+    }
+    if !is_quiet(measure, step, &elements.part) {
+        return None;
+    }
+    take_elements(measure, wanted as u128, step.task.size, size)
+}
+
+// The size behind a field of the record at `at`.
+fn quick_step(measure: &Measure, step: &Step, at: usize, size: usize) -> Option<usize>
+    requires at_inside { at ≤ length measure.now.sender.bytes.now }
+    requires size_small { size < 2 ^ 32 }
+    requires can { CanStep measure.now.plan.now (image_in measure.now.sender) step.now at 0 }
+    requires inside { IsInside measure.now.plan.now step.now }
+    ensures passes { IfSome result (λ end. StepPasses measure.now.plan.now measure.now.limit
+        (image_in measure.now.sender) step.now at size end) }
+    ensures bound { IfSome result (λ end. end < 2 ^ 32) }
+{
+    match &step.task.op {
+        Op::Number(kind, origin) => {
+            let number = number_from(&measure.sender, at, origin);
+            if fits(*kind, step.task.size, number) {
+                Some(size)
+            } else {
+                None
+            }
+        }
+        Op::Text(None) => Some(size),
+        Op::Text(Some(offset)) => quick_text(measure, at + *offset as usize, size),
+        Op::Many(origin, elements) => quick_many(measure, step, origin, elements, at, size),
+        Op::Nest(_) | Op::Each(_, _) => None,
+    }
+}
+
+// The size behind the record at `at`, made by the steps of that number.
+pub(crate) fn quick_record(
+    measure: &Measure,
+    number: usize,
+    at: usize,
+    size: usize,
+) -> Option<usize>
+    requires known { number < length measure.now.plan.now.table }
+    requires at_inside { at ≤ length measure.now.sender.bytes.now }
+    requires size_small { size < 2 ^ 32 }
+    requires can { CanRun measure.now.plan.now (image_in measure.now.sender)
+        (program_at measure.now.plan.now.table number) at 0 }
+    ensures value { IfSome result (λ end. Ok end ≡ outcome (measured measure.now.limit
+        (image_in measure.now.sender) (program_at measure.now.plan.now.table number) [] at size)) }
+    ensures bound { IfSome result (λ end. end < 2 ^ 32) }
+{
+    let steps = measure.plan.tests(number);
+    let mut size = size;
+    for step in steps {
+        let Some(end) = quick_step(measure, step, at, size) else {
+            return None;
+        };
+        size = end;
+    }
+    Some(size)
+}

@@ -59,7 +59,11 @@ pub(crate) fn with_files(
 fn layouts(alloc: Global, known: Vec<KnownFormat>) -> Result<Vec<Format>, AllocError>
     ensures { IfOk result (λ formats. formats.items ≡ layouts_of known.items) }
 {
-    known.into_iter().map(|one| one.format).collect(alloc)
+    let mut formats = Vec::with_capacity(alloc, known.len())?;
+    for one in known {
+        formats.push_reserved(one.format);
+    }
+    Ok(formats)
 }
 
 // Each source with the records of its file, whose own formats join the job's.

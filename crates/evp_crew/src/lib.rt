@@ -14,6 +14,8 @@ mod port;
 mod rota;
 mod rule;
 mod seat;
+#[cfg(test)]
+mod tests;
 mod three;
 mod ways;
 mod worker;

@@ -4,3 +4,4 @@ pub mod Pushed
 pub mod SentLayouts
 pub mod SentRecords
 pub mod SentFiles
+pub mod SentLengths

@@ -38,7 +38,7 @@ sent_laid profile =
 
 -- ---- the records
 
-record_length : (profile : Profile) (s i : ℕ) → s < 4 → i < 20000
+pub record_length : (profile : Profile) (s i : ℕ) → s < 4 → i < 20000
     → length (pack (sent_layout profile) (sent_record s i)) ≤ 64
 record_length profile s i few below =
     let long = length-pack (sent_layout profile) (sent_record s i) (sent_laid profile)
@@ -63,7 +63,7 @@ a_record known profile s i few below =
     }
 
 -- a fact of each record of a file
-each_record : (P : FileItem → Type 0) (layout : Layout) (s n : ℕ)
+pub each_record : (P : FileItem → Type 0) (layout : Layout) (s n : ℕ)
     → ((i : ℕ) → i < n → P (sent_item layout s i))
     → All P (map (sent_item layout s) (range_with_len 0 n))
 each_record P layout s n is k d below =

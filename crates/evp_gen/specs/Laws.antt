@@ -1,5 +1,5 @@
--- The law of the files that are made.
-use Rattle.std.specs.Prelude.{◌≡◌, ℕ, ◌^◌, ◌<◌, ◌≤◌, List, Ok}
+-- The laws of the files that are made.
+use Rattle.std.specs.Prelude.{◌≡◌, ℕ, ◌^◌, ◌<◌, ◌≤◌, List, length, Ok}
 use Rattle.evp_file.specs.declared.file.KnownFormat.{KnownFormat}
 use Rattle.evp_file.specs.Reading.{file_of}
 use Rattle.evp_profile.specs.declared.profile.Profile.{Profile}
@@ -11,3 +11,8 @@ abbrev pub SentIsRead : Type 0
 SentIsRead = (profile : Profile) (s n : ℕ) (known : List KnownFormat) (limit : ℕ)
     → s < 4 → n ≤ 20000 → 64 ≤ limit → limit < 2 ^ 32
     → file_of known limit (sent_bytes profile s n) ≡ Ok (sent_file profile s n)
+
+-- it has at most 16 MiB
+abbrev pub SentIsShort : Type 0
+SentIsShort = (profile : Profile) (s n : ℕ) → s < 4 → n ≤ 20000
+    → length (sent_bytes profile s n) ≤ 16777216

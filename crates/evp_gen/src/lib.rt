@@ -9,7 +9,7 @@ mod records;
 mod senders;
 mod stones;
 
-pub use laws::sent_is_read;
+pub use laws::{sent_is_read, sent_is_short};
 pub use made::{Made, make};
 
 #[cfg(test)]

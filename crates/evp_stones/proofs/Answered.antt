@@ -6,12 +6,13 @@ use Rattle.std.specs.Io.KnownBytes.{Appends}
 use Rattle.evp_depot.specs.Counts.{Rose}
 use Rattle.evp_depot.specs.Files.{Files}
 use Rattle.evp_depot.specs.Put.{AppendsPart, Puts}
-use Rattle.evp_stones.specs.Answer.{Answers, Reply, IsReply, IsReadBy, Told, Refuses}
+use Rattle.evp_stones.specs.Answer.{Answers, Reply, IsBenched, IsReply, IsReadBy, Tells, Told, Refuses}
 use Rattle.evp_stones.specs.declared.refusal.Refusal.{Refusal}
 use Rattle.evp_stones.specs.declared.refusal.Refusal.TheVariants.{Words, Absent, Read, TooLong, NotJson, Job, Data, Order, Memory}
 use Rattle.evp_stones.specs.Refusals.{refusal_line, refusal_status}
 use Rattle.evp_stones.specs.Steps.{Works, IsWords}
 use Rattle.evp_stones.specs.Words.{Line}
+use Rattle.evp_stones.proofs.BenchWorks.{benched_starved}
 use Rattle.evp_stones.proofs.Joined.{starved}
 
 -- a line was put, or a part of it
@@ -25,11 +26,12 @@ line_told faults_of put old new refusal (Err e) puts = (refl, inr (puts.failed, 
 pub refused_told : {D K : Type 0} (held : D → Option Files) (misses faults_of : D → ℕ) (sink_faults : K → ℕ)
     (put : K → Option (List ℕ)) (asked : Line) (line : Option Line) (depot depot' : D) (sink sink' : K) (refusal : Refusal) (status : ℕ)
     → line ≡ Some asked → Works held misses faults_of depot depot' (IsReply asked) (IsReadBy asked) (Err refusal)
-    → Refuses sink_faults put sink sink' refusal status
+    → IsBenched asked (Err refusal) → Refuses sink_faults put sink sink' refusal status
     → Answers held misses faults_of sink_faults put line depot depot' sink sink' status
-refused_told held misses faults_of sink_faults put asked line depot depot' sink sink' refusal status is works refuses = record {
+refused_told held misses faults_of sink_faults put asked line depot depot' sink sink' refusal status is works bench refuses = record {
   reply = Err refuses.refused;
   works = rw is (by refuses.refused refuses.this);
+  benched = rw is (benched_by refuses.refused refuses.this);
   no_line = rw is tt;
   told = refuses.told;
 } where
@@ -38,31 +40,25 @@ refused_told held misses faults_of sink_faults put asked line depot depot' sink 
   by refused (inl same) = rw same works
   by refused (inr none) = rw none (starved held misses faults_of depot depot' (IsReply asked) (IsReply asked) (IsReadBy asked) (IsReadBy asked) (Err refusal) works)
 
--- a line's output, which was written
-pub output_told : {D K : Type 0} (held : D → Option Files) (misses faults_of : D → ℕ) (sink_faults : K → ℕ)
-    (put : K → Option (List ℕ)) (asked : Line) (line : Option Line) (depot depot' : D) (sink sink' : K) (output : List ℕ)
-    → line ≡ Some asked → Works held misses faults_of depot depot' (IsReply asked) (IsReadBy asked) (Ok output)
-    → Appends (put sink) (put sink') output
-    → Answers held misses faults_of sink_faults put line depot depot' sink sink' 0
-output_told held misses faults_of sink_faults put asked line depot depot' sink sink' output is works all = record {
-  reply = Ok output;
-  works = rw is works;
-  no_line = rw is tt;
-  told = inl (refl, all);
-}
+  benched_by : (refused : Refusal) → (refused ≡ refusal) ⊎ (refused ≡ Memory) → IsBenched asked (Err refused)
+  benched_by refused (inl same) = rw same bench
+  benched_by refused (inr none) = rw none (benched_starved asked)
 
--- a part of it was
-pub part_told : {D K : Type 0} (held : D → Option Files) (misses faults_of : D → ℕ) (sink_faults : K → ℕ)
-    (put : K → Option (List ℕ)) (asked : Line) (line : Option Line) (depot depot' : D) (sink sink' : K) (output : List ℕ)
-    → line ≡ Some asked → Works held misses faults_of depot depot' (IsReply asked) (IsReadBy asked) (Ok output)
-    → Rose (sink_faults sink) (sink_faults sink') → AppendsPart (put sink) (put sink') output
-    → Answers held misses faults_of sink_faults put line depot depot' sink sink' 8
-part_told held misses faults_of sink_faults put asked line depot depot' sink sink' output is works rose part = record {
+-- a line's reply, which was written
+pub line_told_by : {D K : Type 0} (held : D → Option Files) (misses faults_of : D → ℕ) (sink_faults : K → ℕ)
+    (put : K → Option (List ℕ)) (asked : Line) (line : Option Line) (depot depot' : D) (sink sink' : K) (reply : Reply) (status : ℕ)
+    → line ≡ Some asked → Works held misses faults_of depot depot' (IsReply asked) (IsReadBy asked) reply
+    → IsBenched asked reply → Tells sink_faults put sink sink' reply status
+    → Answers held misses faults_of sink_faults put line depot depot' sink sink' status
+line_told_by held misses faults_of sink_faults put asked line depot depot' sink sink' (Ok output) status is works bench told = record {
   reply = Ok output;
   works = rw is works;
+  benched = rw is bench;
   no_line = rw is tt;
-  told = inr (refl, rose, part);
+  told = told;
 }
+line_told_by held misses faults_of sink_faults put asked line depot depot' sink sink' (Err refusal) status is works bench told =
+    refused_told held misses faults_of sink_faults put asked line depot depot' sink sink' refusal status is works bench told
 
 -- words that are no line
 pub no_line_told : {D K : Type 0} (held : D → Option Files) (misses faults_of : D → ℕ) (sink_faults : K → ℕ)
@@ -72,6 +68,7 @@ pub no_line_told : {D K : Type 0} (held : D → Option Files) (misses faults_of 
 no_line_told held misses faults_of sink_faults put line depot depot' sink sink' status is told = record {
   reply = Err Words;
   works = rw is tt;
+  benched = rw is tt;
   no_line = rw is refl;
   told = told;
 }

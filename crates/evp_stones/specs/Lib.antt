@@ -16,7 +16,16 @@ pub mod RecordFiles
 pub mod WholeJob
 pub mod Order
 pub mod Run
+pub mod Totals
+pub mod AccountTotals
+pub mod Accepted
+pub mod Bench
+pub mod BenchJob
+pub mod BenchLaws
+pub mod Summary
 pub mod ShownText
 pub mod ListingText
 pub mod OutputText
 pub mod Answer
+pub mod Completeness
+pub mod Laws

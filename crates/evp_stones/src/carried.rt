@@ -1,15 +1,20 @@
-//! Jobs that were carried, on one thread.
-ghost use Rattle.std.specs.Prelude.{◌≡◌, ◌<◌, All, IfOk};
+//! Jobs that were carried.
+ghost use Rattle.std.specs.Prelude.{◌≡◌, ◌<◌, All, IfOk, length};
 ghost use Rattle.evp_stone.specs.WholeAccounts.{AreAccounts};
 ghost use Rattle.evp_stones.specs.Run.{actors_of};
+ghost use Rattle.evp_stones.specs.Words.{AreWorkers};
 
+use crate::bench::{Totals, job_totals};
 use evp_base::Memory;
 use evp_core::World;
+use evp_crew::{Gate, carry};
 use evp_depot::{PutFault, Sink};
 use evp_report::write_report;
 use evp_stone::{Account, Job};
 use std::alloc::Global;
 use std::marker::Model;
+use std::sync::Wait;
+use std::thread::Threads;
 
 /// A job, with the accounts of its stones in their order.
 #[derive(Drop)]
@@ -38,14 +43,44 @@ impl Model for Carried {
 impl Carried {
     ghost use Rattle.evp_depot.specs.Put.{Puts};
     ghost use Rattle.evp_report.specs.Report.{report};
+    ghost use Rattle.evp_stones.specs.Totals.{totals_of};
 
-    /// The job, carried by these turns first and then by turns in rotation.
-    pub fn new(alloc: Global, job: Job, turns: &[u16]) -> Result<Carried, Memory>
+    /// The job, carried by so many workers. The gate is called before each turn of a worker.
+    pub fn by_workers<R: Threads + Wait + Sync, G: Gate + Sync>(
+        rt: &R,
+        alloc: Global,
+        job: Job,
+        workers: u32,
+        gate: &G,
+    ) -> Result<Carried, Memory>
+        requires { AreWorkers workers }
+        ensures { IfOk result (λ carried. carried ≡ job) }
+    {
+        let accounts = accounts_by(rt, alloc, &job, workers, gate)?;
+        Ok(Carried { job, accounts })
+    }
+
+    /// The job on this thread, carried by these turns first and then by turns in rotation.
+    pub fn by_turns(alloc: Global, job: Job, turns: &[u16]) -> Result<Carried, Memory>
         requires { All (λ actor. actor < actors_of job) turns.now }
         ensures { IfOk result (λ carried. carried ≡ job) }
     {
         let accounts = accounts_of(alloc, &job, turns)?;
         Ok(Carried { job, accounts })
+    }
+
+    /// How many routes the job has.
+    pub fn routes(&self) -> usize
+        ensures { result ≡ length self.now.routes }
+    {
+        self.job.parts().routes.as_slice().len()
+    }
+
+    /// What the accounts come to.
+    pub fn totals(&self) -> Totals
+        ensures { result ≡ totals_of self.now }
+    {
+        job_totals(&self.job, &self.accounts)
     }
 
     /// Writes the report of the job. It takes no memory.
@@ -56,7 +91,22 @@ impl Carried {
     }
 }
 
-// The accounts of the job's stones, carried so.
+// The accounts of the job's stones, carried by so many workers.
+fn accounts_by<R: Threads + Wait + Sync, G: Gate + Sync>(
+    rt: &R,
+    alloc: Global,
+    job: &Job,
+    workers: u32,
+    gate: &G,
+) -> Result<Vec<Account>, Memory>
+    requires { AreWorkers workers }
+    ensures { IfOk result (λ accounts. AreAccounts job.now accounts.items) }
+{
+    let carried = carry(rt, alloc, job, workers, gate)?;
+    Ok(carried.accounts())
+}
+
+// The accounts of the job's stones, carried by these turns.
 fn accounts_of(alloc: Global, job: &Job, turns: &[u16]) -> Result<Vec<Account>, Memory>
     requires { All (λ actor. actor < actors_of job.now) turns.now }
     ensures { IfOk result (λ accounts. AreAccounts job.now accounts.items) }

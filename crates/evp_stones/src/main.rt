@@ -2,19 +2,22 @@
 #![tactic(auto)]
 
 mod alone;
+mod bench;
 mod carried;
 mod check;
 mod convert;
 mod decimal_number;
 mod fetching;
 mod file_name;
-mod gate;
+mod hexadecimal;
 mod job;
+mod laws;
 mod listing;
 mod order;
 mod output;
 mod record_files;
 mod refusal;
+mod replying;
 mod run;
 mod show;
 mod top;
@@ -22,8 +25,9 @@ mod whole_job;
 mod words;
 
 pub use alone::alone;
+pub use evp_crew::{Gate, OpenGate};
 use evp_depot::{FileDepot, StdSink};
-pub use gate::{Gate, OpenGate};
+pub use laws::one_report;
 use std::process::ExitCode;
 use std::{env, io};
 pub use top::stones;

@@ -1,5 +1,6 @@
 //! What a line writes.
 
+use crate::bench::Summary;
 use crate::carried::Carried;
 use crate::listing::Listing;
 
@@ -10,4 +11,6 @@ pub enum Output {
     Listed(Listing),
     /// A job that was carried.
     Reported(Carried),
+    /// A large job that was carried.
+    Summed(Summary),
 }

@@ -5,25 +5,38 @@ ghost use Rattle.evp_stones.specs.Fetching.{IsHeld};
 ghost use Rattle.evp_stones.specs.Run.{actors_of, IsRun, IsWalk, IsWalkRead, walked};
 ghost use Rattle.evp_stones.specs.Steps.{Works, seen_by};
 ghost use Rattle.evp_stones.specs.WholeJob.{IsJobRead};
+ghost use Rattle.evp_stones.specs.Words.{AreWorkers};
 
 use crate::carried::Carried;
 use crate::order::turns;
 use crate::refusal::Refusal;
 use crate::whole_job::whole_job;
+use evp_crew::Gate;
 use evp_depot::Depot;
 use evp_stone::Job;
 use std::alloc::Global;
+use std::sync::Wait;
+use std::thread::Threads;
 
-/// The job of the document of this name, carried by turns in rotation.
-pub fn run<D: Depot>(alloc: Global, depot: &mut D, name: &str) -> Result<Carried, Refusal>
+/// The job of the document of this name, carried by so many workers. The gate is called before each
+/// turn of a worker.
+pub fn run<R: Threads + Wait + Sync, D: Depot, G: Gate + Sync>(
+    rt: &R,
+    alloc: Global,
+    depot: &mut D,
+    name: &str,
+    workers: u32,
+    gate: &G,
+) -> Result<Carried, Refusal>
+    requires { AreWorkers workers }
     ensures { Works D.held D.misses D.faults depot.old depot.new (IsRun name.now)
         (IsJobRead name.now) (seen_by report result) }
 {
     let job = whole_job(alloc, depot, name)?;
-    Ok(Carried::new(alloc, job, &[])?)
+    Ok(Carried::by_workers(rt, alloc, job, workers, gate)?)
 }
 
-/// The same, carried by the turns that the file `order` lists, and then by turns in rotation. That
+/// The same on this thread, carried by the turns that the file `order` lists, and then by turns in rotation. That
 /// file is read behind all that the job is made of.
 pub fn walk<D: Depot>(
     alloc: Global,
@@ -50,7 +63,7 @@ fn walk_by<D: Depot>(
         (seen_by report result) }
 {
     let turns = turns(alloc, depot, order, actors(&job))?;
-    Ok(Carried::new(alloc, job, &turns)?)
+    Ok(Carried::by_turns(alloc, job, &turns)?)
 }
 
 // How many actors the job has.

@@ -1,7 +1,7 @@
 use Rattle.std.proofs.Common.{append-nil}
 use Rattle.evp_report.proofs.Chains.{all_put, then}
 use Rattle.evp_stones.specs.ListingText.{listing_text}
-use Rattle.evp_stones.proofs.alone.write_listing.Goals as goal
+use Rattle.evp_stones.proofs.replying.write_listing.Goals as goal
 
 pub returns : goal.returns
 returns g c =

@@ -1,4 +1,4 @@
-use Rattle.evp_stones.proofs.alone.put.Goals as goal
+use Rattle.evp_stones.proofs.replying.put.Goals as goal
 
 pub returns-in-Checked : goal.returns-in-Checked
 returns-in-Checked g c = rw c.in-Checked.is c.put_checked.ensures

@@ -1,0 +1,53 @@
+//! The line `bench N W`: a large job made of a number, and what carrying it comes to.
+ghost use Rattle.std.specs.Prelude.{◌≡◌, ◌≤◌, IfOk, Ok};
+ghost use Rattle.evp_stones.specs.Bench.{bench_text, IsBench};
+ghost use Rattle.evp_stones.specs.Summary.{summary_text};
+ghost use Rattle.evp_stones.specs.Words.{AreWorkers};
+
+mod hashing;
+mod laws;
+mod made_job;
+mod summary;
+mod totals;
+
+use crate::carried::Carried;
+use evp_base::Memory;
+use evp_crew::Gate;
+use hashing::report_digest;
+use made_job::made_job;
+use std::alloc::Global;
+use std::sync::Wait;
+use std::thread::Threads;
+pub use summary::Summary;
+pub(crate) use totals::{Totals, job_totals};
+
+/// What carrying the large job with so many records of each source, by so many workers, comes to.
+/// The gate is called before each turn of a worker.
+pub fn bench<R: Threads + Wait + Sync, G: Gate + Sync>(
+    rt: &R,
+    alloc: Global,
+    records: u32,
+    workers: u32,
+    gate: &G,
+) -> Result<Summary, Memory>
+    requires workers { AreWorkers workers }
+    requires some { 1 ≤ records }
+    requires few { records ≤ 20000 }
+    ensures { IfOk result (λ summary. IsBench records (Ok (summary_text summary))) }
+{
+    let job = made_job(alloc, records)?;
+    let carried = Carried::by_workers(rt, alloc, job, workers, gate)?;
+    Ok(summary_of(records, &carried))
+}
+
+// What is told of a job that was carried.
+fn summary_of(records: u32, carried: &Carried) -> Summary
+    ensures { summary_text result ≡ bench_text records carried.now }
+{
+    Summary {
+        records,
+        routes: carried.routes(),
+        totals: carried.totals(),
+        digest: report_digest(carried),
+    }
+}

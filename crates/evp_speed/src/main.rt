@@ -12,6 +12,7 @@ ghost use Rattle.evp_plan.specs.Planned.{StandsFor};
 
 mod actions;
 mod acts;
+mod carrying;
 mod check_deep;
 mod check_generated;
 mod check_numbers;
@@ -24,11 +25,15 @@ mod convert_numbers;
 mod documents;
 mod evaluation;
 mod expressions;
+mod finish_chain;
+mod finish_monitoring;
+mod jobs;
 mod queue_alone;
 mod queue_two;
 mod random;
 mod reading;
 mod record_bytes;
+mod record_files;
 mod settable;
 mod several;
 mod step;
@@ -55,6 +60,7 @@ fn main(rt: HostRuntime) -> Result<()> {
     tell_expressions(&rt, timed)?;
     tell_actions(&rt, timed)?;
     tell_reading(&rt, timed)?;
+    tell_carrying(&rt, timed)?;
     let alloc = rt.alloc();
     let alone = Alone {
         rt: &rt,
@@ -233,6 +239,12 @@ fn tell_reading(rt: &HostRuntime, timed: bool) -> Result<()> {
     tell(rt, timed, &reading::files(alloc)?)?;
     tell(rt, timed, &documents::generated(alloc)?)?;
     tell(rt, timed, &documents::megabyte(alloc)?)
+}
+
+fn tell_carrying(rt: &HostRuntime, timed: bool) -> Result<()> {
+    let alloc = rt.alloc();
+    tell(rt, timed, &finish_monitoring::monitoring(alloc)?)?;
+    tell(rt, timed, &finish_chain::chain(alloc)?)
 }
 
 // Writes the workload's line.

@@ -1,5 +1,6 @@
 //! The blocks of a record, which begin at multiples of 8, and its numbers.
 
+use evp_base::Order;
 use std::alloc::AllocError;
 
 /// Zeros up to the next multiple of 8.
@@ -23,6 +24,20 @@ pub fn push_text(bytes: &mut Vec<u8>, text: &[u8]) -> Result<(), AllocError> {
 
 /// A number of this size, the least byte first, at the next multiple of its size.
 pub fn push_number(bytes: &mut Vec<u8>, size: usize, number: u64) -> Result<(), AllocError> {
+    push_ordered(bytes, Order::Little, size, number)
+}
+
+/// A number of this size, in this order of bytes, at the next multiple of its size.
+pub fn push_ordered(
+    bytes: &mut Vec<u8>,
+    order: Order,
+    size: usize,
+    number: u64,
+) -> Result<(), AllocError> {
     align_to(bytes, size)?;
-    bytes.extend_from_slice(&number.to_le_bytes()[..size.min(8)])
+    let size = size.min(8);
+    match order {
+        Order::Little => bytes.extend_from_slice(&number.to_le_bytes()[..size]),
+        Order::Big => bytes.extend_from_slice(&number.to_be_bytes()[8 - size..]),
+    }
 }

@@ -1,5 +1,6 @@
 pub mod Numbered
 pub mod Answered
+pub mod Complete
 pub mod Joined
 pub mod Looked
 pub mod WroteText

@@ -20,3 +20,4 @@ pub mod ShownText
 pub mod ListingText
 pub mod OutputText
 pub mod Answer
+pub mod Completeness

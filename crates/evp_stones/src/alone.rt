@@ -4,6 +4,7 @@ ghost use Rattle.evp_depot.specs.Put.{Puts};
 ghost use Rattle.evp_report.specs.Passing.{Passes};
 ghost use Rattle.evp_stones.specs.declared.refusal.Refusal.TheVariants as refusal;
 ghost use Rattle.evp_stones.specs.Answer.{Answers, IsReadBy, IsReply, Told};
+ghost use Rattle.evp_stones.specs.Completeness.{Completes};
 ghost use Rattle.evp_stones.specs.ListingText.{listing_text};
 ghost use Rattle.evp_stones.specs.OutputText.{output_text};
 ghost use Rattle.evp_stones.specs.Steps.{Works, seen_by};
@@ -27,6 +28,16 @@ use std::alloc::Global;
 /// Nothing is written before all is worked out. Then the whole answer goes out, in pieces of some
 /// kilobytes, or the line of a refusal; a front of it where the sink fails. Writing takes no memory.
 pub fn alone<D: Depot, K: Sink>(alloc: Global, words: &[String], depot: &mut D, sink: &mut K) -> u8
+    ensures answers { Answers D.held D.misses D.faults K.faults K.put
+        (line_of (map string_bytes words.now)) depot.old depot.new sink.old sink.new result }
+    ensures complete { Completes D.held D.faults K.faults K.put
+        (line_of (map string_bytes words.now)) depot.old depot.new sink.old sink.new result }
+{
+    answer(alloc, words, depot, sink)
+}
+
+// Works the line out and writes what comes of it.
+fn answer<D: Depot, K: Sink>(alloc: Global, words: &[String], depot: &mut D, sink: &mut K) -> u8
     ensures { Answers D.held D.misses D.faults K.faults K.put (line_of (map string_bytes words.now))
         depot.old depot.new sink.old sink.new result }
 {

@@ -6,7 +6,7 @@ use Rattle.evp_job.specs.declared.fault.JobFault.TheVariants.{UnknownFormat}
 use Rattle.evp_job.specs.TextShape.{TextShape}
 use Rattle.evp_stones.specs.Convert.{format_named, file_answer, converts, IsConvert, IsFileBy, IsReadFor}
 use Rattle.evp_stones.specs.declared.refusal.Refusal.{Refusal}
-use Rattle.evp_stones.specs.declared.refusal.Refusal.TheVariants.{Job}
+use Rattle.evp_stones.specs.declared.refusal.Refusal.TheVariants.{Job, Memory}
 use Rattle.evp_stones.specs.Fetching.{IsHeld}
 use Rattle.evp_stones.specs.JobText.{IsJobOf}
 use Rattle.evp_stones.specs.Steps.{Works}
@@ -64,3 +64,23 @@ pub no_job : {D : Type 0} (held : D → Option Files) (misses faults_of : D → 
 no_job held misses faults_of old new job format file refusal works =
     works_cut held misses faults_of old new (IsJobOf job) (IsConvert job format file) (IsHeld job) (IsReadFor job format file) refusal
     (λ files r is. record { text = Err r; is = is; answered = refl }) (λ files name is. inl is) works
+
+-- there was no memory, and nothing was read
+pub no_memory : {D X : Type 0} (held : D → Option Files) (misses faults_of : D → ℕ) (depot : D)
+    (says : Files → Result X Refusal → Type 0) (reads : Files → List ℕ → Type 0) → Works held misses faults_of depot depot says reads (Err Memory)
+no_memory held misses faults_of depot says reads = record {
+  on_line = λ e. e;
+  misses_stay = omega arith;
+  faults_stay = omega arith;
+  still_held = same (held depot);
+  missed = λ e. absurd e;
+  failed = λ e. absurd e;
+  told = told_none (held depot);
+} where
+  same : (told : Option Files) → OnSome told (told ≡ told)
+  same None = tt
+  same (Some files) = refl
+
+  told_none : (told : Option Files) → IfSome told (λ files. Unit {0})
+  told_none None = tt
+  told_none (Some files) = tt

@@ -8,8 +8,11 @@ pub mod Mapped
 pub mod Checked
 pub mod Sources
 mod LineExamples
+mod OrderExamples
 pub mod RecordFiles
 pub mod WholeJobs
+pub mod SameReport
+pub mod OneReport
 pub mod Runs
 pub mod DecimalNumbers
 pub mod Worlds
@@ -17,5 +20,7 @@ pub mod Lines
 pub mod Turns
 pub mod Pushed
 pub mod Converts
+pub mod Fitting
+pub mod Elementwise
 pub mod Founds
 pub mod Within

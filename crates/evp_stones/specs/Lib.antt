@@ -8,10 +8,9 @@ pub mod Fetching
 pub mod Show
 pub mod JobText
 pub mod Check
-pub mod Outcomes
 pub mod Founds
 pub mod Convert
-pub mod Converted
+pub mod Foreseen
 pub mod RecordFiles
 pub mod WholeJob
 pub mod Order
@@ -21,3 +20,4 @@ pub mod ListingText
 pub mod OutputText
 pub mod Answer
 pub mod Completeness
+pub mod Laws

@@ -4,10 +4,9 @@ use Rattle.evp_job.specs.TextView.{text_of}
 use Rattle.evp_stones.specs.declared.listing.Listing.{Listing}
 use Rattle.evp_stones.specs.declared.listing.Listing.TheVariants as listing
 use Rattle.evp_stones.specs.Check.{check_text}
-use Rattle.evp_stones.specs.Converted.{converted_text}
 use Rattle.evp_stones.specs.ShownText.{shown_text}
 
 abbrev pub listing_text : Listing → List ℕ
 listing_text (listing.Shown file) = shown_text file
 listing_text (listing.Checked text) = check_text (text_of text)
-listing_text (listing.Converted made) = converted_text made
+listing_text (listing.Converted made) = made

@@ -45,7 +45,7 @@ fn answer<D: Depot, K: Sink>(alloc: Global, words: &[String], depot: &mut D, sin
         return refuse_words(sink);
     };
     match work(alloc, line, depot) {
-        Ok(output) => match write(&output, sink) {
+        Ok(output) => match write(output, sink) {
             Ok(()) => 0,
             Err(_) => 8,
         },
@@ -79,8 +79,8 @@ fn work<D: Depot>(alloc: Global, line: Line<'_>, depot: &mut D) -> Result<Output
 }
 
 // Writes it.
-fn write<K: Sink>(output: &Output, sink: &mut K) -> Result<(), PutFault>
-    ensures { Puts K.faults K.put sink.old sink.new (output_text output.now) result }
+fn write<K: Sink>(output: Output, sink: &mut K) -> Result<(), PutFault>
+    ensures { Puts K.faults K.put sink.old sink.new (output_text output) result }
 {
     match output {
         Output::Listed(listing) => write_listing(listing, sink),
@@ -88,21 +88,21 @@ fn write<K: Sink>(output: &Output, sink: &mut K) -> Result<(), PutFault>
     }
 }
 
-fn write_listing<K: Sink>(listing: &Listing, sink: &mut K) -> Result<(), PutFault>
-    ensures { Puts K.faults K.put sink.old sink.new (listing_text listing.now) result }
+fn write_listing<K: Sink>(listing: Listing, sink: &mut K) -> Result<(), PutFault>
+    ensures { Puts K.faults K.put sink.old sink.new (listing_text listing) result }
 {
     let mut pieces = Pieces::new();
     put(listing, &mut pieces, sink)?;
     pieces.flush(sink)
 }
 
-fn put<K: Sink>(listing: &Listing, pieces: &mut Pieces, sink: &mut K) -> Result<(), PutFault>
+fn put<K: Sink>(listing: Listing, pieces: &mut Pieces, sink: &mut K) -> Result<(), PutFault>
     ensures { Passes K.faults K.put sink.old sink.new pieces.old pieces.new
-        (listing_text listing.now) result }
+        (listing_text listing) result }
 {
     match listing {
         Listing::Shown(file) => file.put(pieces, sink),
-        Listing::Checked(text) => put_checked(pieces, sink, text),
+        Listing::Checked(text) => put_checked(pieces, sink, &text),
         Listing::Converted(made) => made.put(pieces, sink),
     }
 }

@@ -8,14 +8,13 @@ ghost use Rattle.evp_stones.specs.declared.refusal.Refusal.TheVariants as refusa
 ghost use Rattle.evp_job.specs.declared.fault.JobFault.TheVariants as fault;
 ghost use Rattle.evp_stones.specs.Convert.{converted_bytes, converts, file_answer, format_named};
 ghost use Rattle.evp_stones.specs.Convert.{IsConvert, IsFileBy, IsReadFor};
-ghost use Rattle.evp_stones.specs.Converted.{converted_text};
 ghost use Rattle.evp_stones.specs.Fetching.{IsHeld};
-ghost use Rattle.evp_stones.specs.Steps.{Gives, Works, seen_by};
+ghost use Rattle.evp_stones.specs.Steps.{Gives, Works};
 
+mod conversion;
 mod converted;
-mod outcome;
-mod records;
-mod sender;
+mod finding;
+mod refusing;
 mod text;
 
 use crate::fetching::{LONGEST_FILE, fetch};
@@ -40,30 +39,32 @@ pub fn convert<D: Depot>(
     file: &str,
 ) -> Result<Converted, Refusal>
     ensures { Works D.held D.misses D.faults depot.old depot.new
-        (IsConvert job.now format.now file.now) (IsReadFor job.now format.now file.now)
-        (seen_by converted_text result) }
+        (IsConvert job.now format.now file.now) (IsReadFor job.now format.now file.now) result }
 {
     let text = job_of(alloc, depot, job)?;
-    convert_by(alloc, depot, &text, format, file)
+    convert_by(alloc, depot, text, format, file)
 }
 
 // By the job's text.
 fn convert_by<D: Depot>(
     alloc: Global,
     depot: &mut D,
-    text: &JobText,
+    text: JobText,
     format: &str,
     file: &str,
 ) -> Result<Converted, Refusal>
-    requires few { length text.now.formats.items ≤ 256 }
-    requires limit { text.now.limit ≤ 262144 }
+    requires few { length text.formats.items ≤ 256 }
+    requires limit { text.limit ≤ 262144 }
     ensures { Works D.held D.misses D.faults depot.old depot.new
-        (λ files answer. answer ≡ converts format.now file.now files (text_of text.now))
-        (IsFileBy format.now file.now (text_of text.now)) (seen_by converted_text result) }
+        (λ files answer. answer ≡ converts format.now file.now files (text_of text))
+        (IsFileBy format.now file.now (text_of text)) result }
 {
-    match format_named(text, format.as_bytes()) {
+    match format_named(&text, format.as_bytes()) {
         None => Err(unknown_format(alloc)),
-        Some(to) => convert_to(alloc, depot, text, &to.format, file),
+        Some(to) => match to.format.copy(alloc) {
+            Ok(to) => convert_to(alloc, depot, text, to, file),
+            Err(_) => Err(Refusal::Memory),
+        },
     }
 }
 
@@ -108,15 +109,15 @@ fn is_named(name: &Name, wanted: &[u8]) -> bool
 fn convert_to<D: Depot>(
     alloc: Global,
     depot: &mut D,
-    text: &JobText,
-    to: &Format,
+    text: JobText,
+    to: Format,
     file: &str,
 ) -> Result<Converted, Refusal>
-    requires few { length text.now.formats.items ≤ 256 }
-    requires limit { text.now.limit ≤ 262144 }
+    requires few { length text.formats.items ≤ 256 }
+    requires limit { text.limit ≤ 262144 }
     ensures { Works D.held D.misses D.faults depot.old depot.new
-        (λ files answer. answer ≡ file_answer (text_of text.now) to.now file.now files)
-        (IsHeld file.now) (seen_by converted_text result) }
+        (λ files answer. answer ≡ file_answer (text_of text) to file.now files)
+        (IsHeld file.now) result }
 {
     let bytes = fetch(alloc, depot, file, LONGEST_FILE)?;
     convert_bytes(alloc, text, to, file, &bytes)
@@ -125,17 +126,16 @@ fn convert_to<D: Depot>(
 // The records of these bytes.
 fn convert_bytes(
     alloc: Global,
-    text: &JobText,
-    to: &Format,
+    text: JobText,
+    to: Format,
     file: &str,
     bytes: &[u8],
 ) -> Result<Converted, Refusal>
     requires short { length bytes.now < 2 ^ 31 }
-    requires few { length text.now.formats.items ≤ 256 }
-    requires limit { text.now.limit ≤ 262144 }
-    ensures { Gives (seen_by converted_text result)
-        (converted_bytes (text_of text.now) to.now file.now bytes.now) }
+    requires few { length text.formats.items ≤ 256 }
+    requires limit { text.limit ≤ 262144 }
+    ensures { Gives result (converted_bytes (text_of text) to file.now bytes.now) }
 {
     let held = read_named(alloc, file, bytes, &text.formats, text.limit)?;
-    Ok(records::converted(alloc, &held, &text.formats, to, text.limit)?)
+    Ok(Converted::new(alloc, held, text.formats, to, text.limit)?)
 }

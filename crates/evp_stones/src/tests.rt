@@ -1,3 +1,4 @@
+//! Rows of lines: what is held, the words, and the status and the text that are worked out by hand.
 use crate::{OpenGate, stones};
 use evp_depot::{MemoryDepot, MemorySink};
 use std::alloc::Global;
@@ -6,53 +7,55 @@ use std::sync::Wait;
 use std::test::Fail;
 use std::thread::Threads;
 
-// A format of one number, up to the stones.
-const FORMATS: &str =
-    "{\"formats\":[{\"name\":\"q\",\"profile\":\"be64\",\"types\":[{\"name\":\"q\",\
-    \"fields\":[[\"x\",\"integer\",8]]}]}],\"sources\":[{\"name\":\"a\",\"file\":\"a.ndr\",\"stone\":0}],";
+mod conversions;
+mod converts;
+mod ends;
+mod files;
+mod graphs;
+mod hostile;
+mod lines;
 
-const TERMINAL: &str = "\"stones\":[{\"kind\":\"terminal\",\"format\":\"q\"}],";
+// A job's document around its formats: up to the profile of the format q, up to its types, up to
+// its stones.
+const HEAD: &str = r#"{"formats":[{"name":"q","profile":""#;
 
-const DIAMOND: &str = "\"stones\":[{\"kind\":\"split\",\"targets\":[1,2]},\
-    {\"kind\":\"filter\",\"format\":\"q\",\"expr\":\"1\",\"target\":3},\
-    {\"kind\":\"filter\",\"format\":\"q\",\"expr\":\"1\",\"target\":3},\
-    {\"kind\":\"terminal\",\"format\":\"q\"}],";
+const TYPES: &str = r#"","types":["#;
 
-const FROZEN: &str = "\"stones\":[{\"kind\":\"split\",\"targets\":[1]},\
-    {\"kind\":\"terminal\",\"format\":\"q\"}],";
+const SOURCE: &str = r#"]}],"sources":[{"name":"a","file":"a.ndr","stone":0}],"#;
 
-const CYCLE: &str = "\"stones\":[{\"kind\":\"split\",\"targets\":[1]},\
-    {\"kind\":\"terminal\",\"format\":\"q\"},{\"kind\":\"split\",\"targets\":[4]},\
-    {\"kind\":\"terminal\",\"format\":\"q\"},{\"kind\":\"split\",\"targets\":[2]}],";
+// All of that for a record {x} of one number of 8 bytes on a big-endian machine.
+const FORMATS: &str = r#"{"formats":[{"name":"q","profile":"be64",
+    "types":[{"name":"q","fields":[["x","integer",8]]}]}],
+    "sources":[{"name":"a","file":"a.ndr","stone":0}],"#;
 
-const ONE: &str = "\"rounds\":[{\"submit\":[1],\"frozen\":[]}]}";
+const TERMINAL: &str = r#""stones":[{"kind":"terminal","format":"q"}],"#;
 
-const NONE: &str = "\"rounds\":[{\"submit\":[0],\"frozen\":[]}]}";
+const DIAMOND: &str = r#""stones":[{"kind":"split","targets":[1,2]},
+    {"kind":"filter","format":"q","expr":"1","target":3},
+    {"kind":"filter","format":"q","expr":"1","target":3},
+    {"kind":"terminal","format":"q"}],"#;
 
-const TWO: &str = "\"rounds\":[{\"submit\":[2],\"frozen\":[]}]}";
+// One round, in which this many records are submitted.
+const ZERO: &str = r#""rounds":[{"submit":[0],"frozen":[]}]}"#;
 
-const KEPT: &str = "\"rounds\":[{\"submit\":[1],\"frozen\":[1]},{\"submit\":[0],\"frozen\":[]}]}";
+const ONE: &str = r#""rounds":[{"submit":[1],"frozen":[]}]}"#;
 
-const HEADER: &[u8] =
-    b"NDR1F\0\0\0\x22NDF1\0\x04\0\x01\x01p\0\0\0\x04\0\x01\x01x\x07integer\0\0\0\x04\0\0\0\0";
+const TWO: &str = r#""rounds":[{"submit":[2],"frozen":[]}]}"#;
 
-const RECORD: &[u8] = b"R\0\0\0\0\0\x04\x07\0\0\0";
+const THREE: &str = r#""rounds":[{"submit":[3],"frozen":[]}]}"#;
 
-const WHOLE: &[&[u8]] = &[HEADER, RECORD, b"E"];
+const FOUR: &str = r#""rounds":[{"submit":[4],"frozen":[]}]}"#;
 
-const REPORT: &str = "round 0\na>0 passed 1 dropped 0 refused 0 held 0\n#0 {x=7}\n";
+// The job whose one record is received as it comes.
+const JOB: &[&str] = &[FORMATS, TERMINAL, ONE];
 
-const DIAMOND_REPORT: &str = "round 0\na>0 passed 1 dropped 0 refused 0 held 0\n\
-    a>0>1 passed 1 dropped 0 refused 0 held 0\na>0>1>3 passed 1 dropped 0 refused 0 held 0\n\
-    #0 {x=7}\na>0>2 passed 1 dropped 0 refused 0 held 0\n\
-    a>0>2>3 passed 1 dropped 0 refused 0 held 0\n#0 {x=7}\n";
+const RUN: [&str; 3] = ["run", "j.json", "1"];
 
-const KEPT_REPORT: &str = "round 0\na>0 passed 1 dropped 0 refused 0 held 0\n\
-    a>0>1 passed 0 dropped 0 refused 0 held 1\nround 1\n\
-    a>0 passed 0 dropped 0 refused 0 held 0\na>0>1 passed 1 dropped 0 refused 0 held 0\n\
-    #0 {x=7}\n";
+const WALK: [&str; 3] = ["walk", "j.json", "o.txt"];
 
-// What a depot holds: the job of these parts, a record file of these, and an order file.
+// What a depot holds: the job of these parts as `j.json`, the record file of these as `a.ndr` and
+// as `b.ndr`, and an order file as `o.txt`; and which of its calls fail. A file takes two calls: for
+// all bytes, and for its end.
 #[derive(Drop)]
 struct Held<'a> {
     job: &'a [&'a str],
@@ -77,8 +80,17 @@ fn depot_of(alloc: Global, held: &Held<'_>) -> Result<MemoryDepot, Fail> {
     let mut files = BTreeMap::new(alloc);
     files.insert(String::from_str(alloc, "j.json")?, job)?;
     files.insert(String::from_str(alloc, "a.ndr")?, joined(alloc, held.file)?)?;
+    files.insert(String::from_str(alloc, "b.ndr")?, joined(alloc, held.file)?)?;
     files.insert(String::from_str(alloc, "o.txt")?, held.order.to_vec(alloc)?)?;
     Ok(MemoryDepot::new(files, held.failing.to_vec(alloc)?))
+}
+
+fn owned(alloc: Global, words: &[&str]) -> Result<Vec<String>, Fail> {
+    let mut owned = Vec::new(alloc);
+    for word in words {
+        owned.push(String::from_str(alloc, word)?)?;
+    }
+    Ok(owned)
 }
 
 // The status.
@@ -89,12 +101,9 @@ fn run<R: Threads + Wait + Sync>(
     held: &Held<'_>,
     sink: &mut MemorySink,
 ) -> Result<u8, Fail> {
-    let mut owned = Vec::new(alloc);
-    for word in words {
-        owned.push(String::from_str(alloc, word)?)?;
-    }
+    let words = owned(alloc, words)?;
     let mut depot = depot_of(alloc, held)?;
-    Ok(stones(rt, alloc, &owned, &mut depot, sink, &OpenGate))
+    Ok(stones(rt, alloc, &words, &mut depot, sink, &OpenGate))
 }
 
 // Whether the words give this status and this text.
@@ -111,215 +120,21 @@ fn gives<R: Threads + Wait + Sync>(
     Ok(given == status && sink.put() == text.as_bytes())
 }
 
-const RUN: [&str; 3] = ["run", "j.json", "1"];
-
-const WALK: [&str; 3] = ["walk", "j.json", "o.txt"];
-
-#[test]
-fn reports_a_job(rt: HostRuntime) -> Result<(), Fail> {
-    let alloc = rt.alloc();
+// Whether `run` and `walk` without listed turns do, over a job and a record file.
+fn reports<R: Threads + Wait + Sync>(
+    rt: &R,
+    alloc: Global,
+    job: &[&str],
+    file: &[&[u8]],
+    status: u8,
+    text: &str,
+) -> Result<bool, Fail> {
     let held = Held {
-        job: &[FORMATS, TERMINAL, ONE],
-        file: WHOLE,
+        job,
+        file,
         order: b"",
         failing: &[],
     };
-    assert!(rt; gives(&rt, alloc, &RUN, &held, 0, REPORT)?, "one record");
-    let eight = ["run", "j.json", "8"];
-    assert!(rt;
-        gives(&rt, alloc, &eight, &held, 0, REPORT)?,
-        "by eight workers"
-    );
-    let held = Held {
-        job: &[FORMATS, TERMINAL, NONE],
-        file: &[HEADER, b"E"],
-        order: b"",
-        failing: &[],
-    };
-    let empty = "round 0\na>0 passed 0 dropped 0 refused 0 held 0\n";
-    assert!(rt; gives(&rt, alloc, &RUN, &held, 0, empty)?, "no record");
-    let held = Held {
-        job: &[FORMATS, FROZEN, KEPT],
-        file: WHOLE,
-        order: b"",
-        failing: &[],
-    };
-    assert!(rt;
-        gives(&rt, alloc, &RUN, &held, 0, KEPT_REPORT)?,
-        "kept for a round"
-    );
-    Ok(())
-}
-
-#[test]
-fn walks_by_listed_turns(rt: HostRuntime) -> Result<(), Fail> {
-    let alloc = rt.alloc();
-    let bad = "stones: data \"o.txt\" at 0 order\n";
-    let later = "stones: data \"o.txt\" at 2 order\n";
-    let rows: [(&[u8], u8, &str, &str); 9] = [
-        (b"4\n4\n0\n", 0, DIAMOND_REPORT, "turns"),
-        (b"", 0, DIAMOND_REPORT, "no turns"),
-        (b"4", 0, DIAMOND_REPORT, "the last line feed is missing"),
-        (b"5\n", 7, bad, "no such actor"),
-        (b"04\n", 7, bad, "a leading zero"),
-        (b"4\n+4\n", 7, later, "a sign"),
-        (b"4\n\n", 7, later, "an empty line"),
-        (b"4\n\xff\n", 7, later, "no text"),
-        (b"4\n4294967296", 7, later, "a long number"),
-    ];
-    for (order, status, text, name) in rows {
-        let held = Held {
-            job: &[FORMATS, DIAMOND, ONE],
-            file: WHOLE,
-            order,
-            failing: &[],
-        };
-        assert!(rt; gives(&rt, alloc, &WALK, &held, status, text)?, "{name}");
-    }
-    Ok(())
-}
-
-#[test]
-fn refuses_in_order(rt: HostRuntime) -> Result<(), Fail> {
-    let alloc = rt.alloc();
-    let cut: &[&[u8]] = &[HEADER, RECORD];
-    let rows: [(&[&str], &[&[u8]], &[u32], u8, &str); 9] = [
-        (&["{"], cut, &[], 5, "stones: not json\n"),
-        (&["[]"], cut, &[], 6, "stones: job member .\n"),
-        (
-            &[FORMATS, CYCLE, ONE],
-            cut,
-            &[],
-            6,
-            "stones: job cycle 2 4\n",
-        ),
-        (
-            &[FORMATS, TERMINAL, TWO],
-            cut,
-            &[],
-            7,
-            "stones: data \"a.ndr\" at 54 short\n",
-        ),
-        (
-            &[FORMATS, TERMINAL, TWO],
-            WHOLE,
-            &[],
-            6,
-            "stones: job source 0 submits 2 of 1\n",
-        ),
-        (
-            &[FORMATS, TERMINAL, ONE],
-            WHOLE,
-            &[0],
-            3,
-            "stones: read \"j.json\"\n",
-        ),
-        (
-            &[FORMATS, TERMINAL, ONE],
-            WHOLE,
-            &[2],
-            3,
-            "stones: read \"a.ndr\"\n",
-        ),
-        (
-            &[FORMATS, TERMINAL, ONE],
-            &[b"NDR"],
-            &[],
-            7,
-            "stones: data \"a.ndr\" at 0 magic\n",
-        ),
-        (
-            &[FORMATS, TERMINAL, ONE],
-            &[HEADER, RECORD, b"X"],
-            &[],
-            7,
-            "stones: data \"a.ndr\" at 54 frame kind\n",
-        ),
-    ];
-    for (job, file, failing, status, text) in rows {
-        let held = Held {
-            job,
-            file,
-            order: b"9",
-            failing,
-        };
-        assert!(rt;
-            gives(&rt, alloc, &RUN, &held, status, text)?,
-            "run: {text}"
-        );
-        assert!(rt;
-            gives(&rt, alloc, &WALK, &held, status, text)?,
-            "walk: {text}"
-        );
-    }
-    Ok(())
-}
-
-#[test]
-fn refuses_words_and_absent_names(rt: HostRuntime) -> Result<(), Fail> {
-    let alloc = rt.alloc();
-    let held = Held {
-        job: &[FORMATS, TERMINAL, ONE],
-        file: WHOLE,
-        order: b"",
-        failing: &[],
-    };
-    let lines: [[&str; 3]; 6] = [
-        ["run", "j.json", "0"],
-        ["run", "j.json", "65"],
-        ["run", "j.json", "01"],
-        ["run", "j.json", "+1"],
-        ["run", "j.json", ""],
-        ["runs", "j.json", "1"],
-    ];
-    for line in lines {
-        assert!(rt;
-            gives(&rt, alloc, &line, &held, 1, "stones: words\n")?,
-            "{}",
-            line[2]
-        );
-    }
-    let absent = "stones: absent \"no.json\"\n";
-    assert!(rt;
-        gives(&rt, alloc, &["run", "no.json", "1"], &held, 2, absent)?,
-        "run"
-    );
-    assert!(rt;
-        gives(&rt, alloc, &["walk", "no.json", "o.txt"], &held, 2, absent)?,
-        "walk"
-    );
-    let order = "stones: absent \"no.txt\"\n";
-    assert!(rt;
-        gives(&rt, alloc, &["walk", "j.json", "no.txt"], &held, 2, order)?,
-        "order"
-    );
-    Ok(())
-}
-
-#[test]
-fn writes_a_front_where_the_sink_fails(rt: HostRuntime) -> Result<(), Fail> {
-    let alloc = rt.alloc();
-    let held = Held {
-        job: &[FORMATS, TERMINAL, ONE],
-        file: WHOLE,
-        order: b"",
-        failing: &[],
-    };
-    for k in 0..58u32 {
-        let mut sink = MemorySink::new(alloc, 57, 1, vec![in alloc; k]?)?;
-        let status = run(&rt, alloc, &RUN, &held, &mut sink)?;
-        assert_eq!(rt; status, if k < 57 { 8 } else { 0 }, "at call {k}");
-        assert_eq!(rt; sink.put().len(), k.min(57) as usize);
-        assert!(rt; REPORT.as_bytes().starts_with(sink.put()));
-    }
-    let mut sink = MemorySink::new(alloc, 10, 64, Vec::new(alloc))?;
-    assert_eq!(rt; run(&rt, alloc, &RUN, &held, &mut sink)?, 8);
-    assert!(rt; sink.put() == b"round 0\na>".as_slice());
-    let mut sink = MemorySink::new(alloc, 100, 64, vec![in alloc; 0u32]?)?;
-    assert_eq!(rt;
-        run(&rt, alloc, &["run", "no.json", "1"], &held, &mut sink)?,
-        2
-    );
-    assert_eq!(rt; sink.put().len(), 0);
-    Ok(())
+    Ok(gives(rt, alloc, &RUN, &held, status, text)?
+        && gives(rt, alloc, &WALK, &held, status, text)?)
 }

@@ -1,7 +1,5 @@
 use Rattle.std.proofs.lemmas.Result.{err_from_is_err_and}
 use Rattle.evp_job.specs.TextView.{text_of}
-use Rattle.evp_stones.specs.Converted.{converted_text}
-use Rattle.evp_stones.specs.Steps.{seen_by}
 use Rattle.evp_stones.proofs.Converts.{no_job, with_job}
 use Rattle.evp_stones.proofs.convert.convert.Goals as goal
 
@@ -15,4 +13,4 @@ returns-in_err-text g c =
 pub returns : goal.returns
 returns g c =
     with_job g.D.Depot.held g.D.Depot.misses g.D.Depot.faults _ _ _ c.args.job.now c.args.format.now c.args.file.now
-    (text_of c.in_ok-text.text) (seen_by converted_text c.convert_by.result) c.in_ok-text.ensures.works c.convert_by.ensures
+    (text_of c.in_ok-text.text) c.convert_by.result c.in_ok-text.ensures.works c.convert_by.ensures

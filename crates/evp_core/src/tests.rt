@@ -1,7 +1,6 @@
 //! Jobs that a world carries, by their reports.
 
 mod jobs;
-mod monitoring;
 mod orders;
 mod turns;
 

@@ -15,6 +15,7 @@ mod files;
 mod graphs;
 mod hostile;
 mod lines;
+mod monitoring;
 
 // A job's document around its formats: up to the profile of the format q, up to its types, up to
 // its stones.

@@ -10,20 +10,14 @@ use evp_stone::Job;
 use std::alloc::Global;
 
 // The most bytes of a file.
-const MOST_BYTES: usize = 100_000;
+const MOST_BYTES: usize = 1_000;
 
 /// The job of the document, whose one source has this file.
 pub fn job_of_one(alloc: Global, document: &str, bytes: &[u8]) -> Option<Job> {
-    let file = Vec::from_slice(alloc, bytes).ok()?;
-    let files = vec![in alloc; file].ok()?;
-    job_of(alloc, document, &files)
-}
-
-/// The job of the document, whose sources have these files, in their order.
-pub fn job_of(alloc: Global, document: &str, files: &[Vec<u8>]) -> Option<Job> {
     let text = stated(alloc, document)?;
-    let read = read_all(alloc, files, &text.formats, text.limit)?;
-    filled(alloc, text, read)
+    let file = file(alloc, bytes, &text.formats, text.limit)?;
+    let files = vec![in alloc; file].ok()?;
+    filled(alloc, text, files)
 }
 
 // What the document states.
@@ -31,24 +25,6 @@ fn stated(alloc: Global, document: &str) -> Option<JobText>
     ensures { IfSome result IsStated }
 {
     read_job(alloc, document.as_bytes()).ok()
-}
-
-// The files that these bytes are, by these known formats.
-fn read_all(
-    alloc: Global,
-    files: &[Vec<u8>],
-    known: &[KnownFormat],
-    limit: u32,
-) -> Option<Vec<RecordFile>>
-    requires { length known.now ≤ 256 }
-    ensures { IfSome result (λ read. All (IsWhole known.now) read.items) }
-{
-    let mut read = Vec::new(alloc);
-    for bytes in files {
-        read.push(file(alloc, bytes.as_slice(), known, limit)?)
-            .ok()?;
-    }
-    Some(read)
 }
 
 // The file that the bytes are, by these known formats.

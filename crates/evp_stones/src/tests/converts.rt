@@ -1,7 +1,7 @@
 //! The line `convert`.
 
 use super::files::{END, KNOWN, ONE_SEVEN, SEVEN, X, X_UNSIGNED};
-use super::{Held, JOB, gives};
+use super::{HEAD, Held, JOB, ONE, SOURCE, TERMINAL, TYPES, gives};
 use std::test::Fail;
 
 const LINE: [&str; 4] = ["convert", "j.json", "q", "a.ndr"];
@@ -12,15 +12,27 @@ const TEXT: &[u8] =
 
 const NULL: &[u8] = b"R\0\0\0\0\0\x04\0\0\0\0";
 
-// A name, a record file, and the text that is written.
-const FILES: [(&str, &[&[u8]], &str); 6] = [
-    ("a record", ONE_SEVEN, "#0 {x=7}\n"),
-    ("two", &[X, SEVEN, SEVEN, END], "#0 {x=7}\n#1 {x=7}\n"),
-    ("none", &[X, END], ""),
-    ("a text", &[TEXT, NULL, END], "#0 clash x\n"),
-    ("an identifier", &[KNOWN, END], "#0 {x=7}\n"),
+// The same job with a number that is never negative.
+const UNSIGNED: &[&str] = &[
+    HEAD,
+    "be64",
+    TYPES,
+    r#"{"name":"q","fields":[["x","unsigned integer",8]]}"#,
+    SOURCE,
+    TERMINAL,
+    ONE,
+];
+
+// A name, a job, a record file, and the text that is written.
+const FILES: [(&str, &[&str], &[&[u8]], &str); 7] = [
+    ("a record", JOB, ONE_SEVEN, "#0 {x=7}\n"),
+    ("two", JOB, &[X, SEVEN, SEVEN, END], "#0 {x=7}\n#1 {x=7}\n"),
+    ("none", JOB, &[X, END], ""),
+    ("a text", JOB, &[TEXT, NULL, END], "#0 clash x\n"),
+    ("an identifier", JOB, &[KNOWN, END], "#0 {x=7}\n"),
     (
         "one that fits and one that doesn't",
+        JOB,
         &[
             X_UNSIGNED,
             b"R\0\0\0\0\0\x08\x7f\xff\xff\xff\xff\xff\xff\xff",
@@ -29,14 +41,20 @@ const FILES: [(&str, &[&[u8]], &str); 6] = [
         ],
         "#0 {x=9223372036854775807}\n#1 unfit x\n",
     ),
+    (
+        "a negative number where none fits",
+        UNSIGNED,
+        &[X, b"R\0\0\0\0\0\x04\xff\xff\xff\xff", END],
+        "#0 unfit x\n",
+    ),
 ];
 
 #[test]
 fn converts_records_or_says_why_not(rt: HostRuntime) -> Result<(), Fail> {
     let alloc = rt.alloc();
-    for (name, file, text) in FILES {
+    for (name, job, file, text) in FILES {
         let held = Held {
-            job: JOB,
+            job,
             file,
             order: b"",
             failing: &[],

@@ -1,7 +1,7 @@
 //! What is refused of files and documents, and what comes first.
 
 use super::files::{END, LIST, ONE_SEVEN, SEVEN, SHORT_TEXT, TEXTS, UNKNOWN, X};
-use super::{FORMATS, Held, JOB, ONE, RUN, TERMINAL, TWO, WALK, gives, joined, reports};
+use super::{FORMATS, FOUR, Held, JOB, ONE, RUN, TERMINAL, WALK, gives, joined, reports};
 use std::alloc::Global;
 use std::sync::Wait;
 use std::test::Fail;
@@ -164,11 +164,14 @@ const DOCUMENTS: [(&str, &[&str], u8, &str); 8] = [
     ("a cycle", &[FORMATS, CYCLE, ONE], 6, "job cycle 2 4"),
     (
         "more than a file has",
-        &[FORMATS, TERMINAL, TWO],
+        &[FORMATS, TERMINAL, FOUR],
         6,
-        "job source 0 submits 2 of 1",
+        "job source 0 submits 4 of 3",
     ),
 ];
+
+// The file that they are read with has three records.
+const THREE_SEVENS: &[&[u8]] = &[X, SEVEN, SEVEN, SEVEN, END];
 
 #[test]
 fn refuses_documents(rt: HostRuntime) -> Result<(), Fail> {
@@ -176,7 +179,7 @@ fn refuses_documents(rt: HostRuntime) -> Result<(), Fail> {
     for (name, job, status, fault) in DOCUMENTS {
         let text = format!(in alloc; "stones: {fault}\n")?;
         assert!(rt;
-            reports(&rt, alloc, job, ONE_SEVEN, status, text.as_str())?,
+            reports(&rt, alloc, job, THREE_SEVENS, status, text.as_str())?,
             "{name}"
         );
     }
@@ -184,13 +187,13 @@ fn refuses_documents(rt: HostRuntime) -> Result<(), Fail> {
     let close = "]".repeat(alloc, 200)?;
     let deep = [open.as_str(), close.as_str()];
     assert!(rt;
-        reports(&rt, alloc, &deep, ONE_SEVEN, 5, "stones: not json\n")?,
+        reports(&rt, alloc, &deep, THREE_SEVENS, 5, "stones: not json\n")?,
         "deep"
     );
     let long = " ".repeat(alloc, 1_048_577)?;
     let text = "stones: too long \"j.json\"\n";
     assert!(rt;
-        reports(&rt, alloc, &[long.as_str()], ONE_SEVEN, 4, text)?,
+        reports(&rt, alloc, &[long.as_str()], THREE_SEVENS, 4, text)?,
         "long"
     );
     Ok(())

@@ -11,9 +11,9 @@ ghost use Rattle.evp_stones.specs.Fetching.{IsHeld};
 ghost use Rattle.evp_stones.specs.Numbered.{numbered};
 ghost use Rattle.evp_stones.specs.Steps.{Works, seen_by};
 
+use crate::hexadecimal::put_hexadecimal;
 use crate::job::job_of;
 use crate::refusal::Refusal;
-use crate::show::put_id;
 use evp_base::Name;
 use evp_depot::{Depot, PutFault, Sink};
 use evp_file::KnownFormat;
@@ -88,7 +88,7 @@ fn put_declared_line<K: Sink>(
     pieces.put(sink, b"format ")?;
     pieces.put(sink, name.as_bytes())?;
     pieces.put(sink, b" ")?;
-    put_id(pieces, sink, &known.id)?;
+    put_hexadecimal(pieces, sink, &known.id.0)?;
     pieces.put(sink, b"\n")
 }
 

@@ -24,7 +24,6 @@ use evp_file::{FileFault, FileFormat, KnownFormat, RecordFile, read_file};
 use evp_format::id_of;
 use evp_report::Pieces;
 use formats::put_formats;
-pub use formats::put_id;
 use items::put_items;
 pub use shown::Shown;
 use std::alloc::Global;

@@ -1,19 +1,18 @@
 //! The formats of a record file, as `show` writes them.
 ghost use Rattle.std.specs.Prelude.{◌≡◌};
 ghost use Rattle.std.specs.List.{flat_map};
-ghost use Rattle.hex.specs.Hex.{encode_lower};
 ghost use Rattle.evp_report.specs.Passing.{Passes};
 ghost use Rattle.evp_stones.specs.Numbered.{numbered};
 ghost use Rattle.evp_stones.specs.Show.{format_line, format_lines, machine_text, order_word};
 ghost use Rattle.evp_stones.specs.Show.{type_line, type_lines};
 
 use super::fields::put_fields;
+use crate::hexadecimal::put_hexadecimal;
 use evp_base::Order;
 use evp_depot::{PutFault, Sink};
 use evp_file::KnownFormat;
-use evp_format::{Format, FormatId, RecordType};
+use evp_format::{Format, RecordType};
 use evp_report::{Pieces, put_counted};
-use hex::encode_to_slice;
 
 /// Each format by its number, with its types and their fields.
 pub(crate) fn put_formats<K: Sink>(
@@ -56,7 +55,7 @@ fn put_format_line<K: Sink>(
 {
     put_counted(pieces, sink, b"format ", number)?;
     put_machine(pieces, sink, &known.format)?;
-    put_id(pieces, sink, &known.id)?;
+    put_hexadecimal(pieces, sink, &known.id.0)?;
     pieces.put(sink, b"\n")
 }
 
@@ -77,18 +76,6 @@ fn order_word(order: Order) -> &'static [u8]
     match order {
         Order::Little => b"little",
         Order::Big => b"big",
-    }
-}
-
-/// Hands on an identifier, in lower case hexadecimal digits. It takes no memory.
-pub fn put_id<K: Sink>(pieces: &mut Pieces, sink: &mut K, id: &FormatId) -> Result<(), PutFault>
-    ensures { Passes K.faults K.put sink.old sink.new pieces.old pieces.new
-        (encode_lower id.now.0) result }
-{
-    let mut digits = [0; 64];
-    match encode_to_slice(&id.0[..], &mut digits[..]) {
-        Ok(()) => pieces.put(sink, &digits[..]),
-        Err(_) => unreachable!(),
     }
 }
 

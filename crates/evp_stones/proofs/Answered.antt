@@ -38,7 +38,9 @@ refused_told held misses faults_of sink_faults put asked line depot depot' sink 
   by : (refused : Refusal) → (refused ≡ refusal) ⊎ (refused ≡ Memory)
       → Works held misses faults_of depot depot' (IsReply asked) (IsReadBy asked) (Err refused)
   by refused (inl same) = rw same works
-  by refused (inr none) = rw none (starved held misses faults_of depot depot' (IsReply asked) (IsReply asked) (IsReadBy asked) (IsReadBy asked) (Err refusal) works)
+  by refused (inr none) =
+      rw none (starved held misses faults_of depot depot' (IsReply asked) (IsReply asked) (IsReadBy asked) (IsReadBy asked)
+      (Err refusal) works)
 
   benched_by : (refused : Refusal) → (refused ≡ refusal) ⊎ (refused ≡ Memory) → IsBenched asked (Err refused)
   benched_by refused (inl same) = rw same bench

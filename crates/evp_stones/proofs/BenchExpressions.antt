@@ -7,7 +7,8 @@ use Rattle.evp_expr.specs.declared.fault.ExprFault.{ExprFault}
 use Rattle.evp_expr.specs.declared.operator.Operator.TheVariants as operator
 use Rattle.evp_expr.specs.declared.token.Placed.{Placed}
 use Rattle.evp_expr.specs.declared.token.Token.TheVariants as token
-use Rattle.evp_expr.specs.Grammar.{IsExpression, most_levels, chain, no_more, more, complete, unsigned, literal, group, path, first, path_end}
+use Rattle.evp_expr.specs.Grammar.{IsExpression, most_levels, chain, no_more, more, complete}
+use Rattle.evp_expr.specs.Grammar.{unsigned, literal, group, path, first, path_end}
 use Rattle.evp_expr.specs.Laws.{OneTree, TreeOrFault}
 use Rattle.evp_expr.specs.Lexing.{placed}
 use Rattle.evp_expr.specs.Parsing.{HasTree}
@@ -58,7 +59,8 @@ pub evens_there : HasTree (codes "y % 2 == 0") evens
 evens_there = record { tokens = _; short = omega arith; scanned = refl; parsed = evens_parsed }
 
 fifths_parsed : IsExpression most_levels
-    (placed 0 token.OpenParen ∷ placed 1 (token.Name (codes "x")) ∷ placed 3 (token.Operator operator.Add) ∷ placed 5 (token.Number (pos 500))
+    (placed 0 token.OpenParen ∷ placed 1 (token.Name (codes "x")) ∷ placed 3 (token.Operator operator.Add)
+    ∷ placed 5 (token.Number (pos 500))
     ∷ placed 8 token.CloseParen ∷ placed 10 (token.Operator operator.Remainder) ∷ placed 12 (token.Number (pos 5)) ∷ []) fifths
 fifths_parsed =
     chain (chain (chain (chain

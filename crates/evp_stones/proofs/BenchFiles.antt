@@ -1,5 +1,6 @@
 -- The generator's files are right for its job.
-use Rattle.std.proofs.Common.{◌≡◌, ℕ, zero, suc, ◌+◌, ◌*◌, ◌^◌, ◌<◌, ◌≤◌, nat_lt, nat_le, List, [], ◌∷◌, length, map, Ok, refl, sym, ap, ◌∙◌, subst, arith}
+use Rattle.std.proofs.Common.{◌≡◌, ℕ, zero, suc, ◌+◌, ◌*◌, ◌^◌, ◌<◌, ◌≤◌, nat_lt, nat_le}
+use Rattle.std.proofs.Common.{List, [], ◌∷◌, length, map, Ok, refl, sym, ap, ◌∙◌, subst, arith}
 use Rattle.std.proofs.lemmas.Bool.{le-leb, ltb-true}
 use Rattle.std.proofs.lemmas.List.FromFn.{length-map-range_with_len}
 use Rattle.std.proofs.lemmas.List.Sums.{sum_by-le}
@@ -50,7 +51,8 @@ all_enough n =
 -- ---- what is carried
 
 carries : (n : ℕ) → n ≤ 20000
-    → sum_by (λ (route : Route). sum (submits route.source (bench_rounds n))) (routes_of bench_graph) ≤ length (routes_of bench_graph) * 20000
+    → sum_by (λ (route : Route). sum (submits route.source (bench_rounds n))) (routes_of bench_graph)
+    ≤ length (routes_of bench_graph) * 20000
 carries n few = sum_by-le (λ (route : Route). sum (submits route.source (bench_rounds n))) 20000 (routes_of bench_graph)
     (each_passes (λ (route : Route). nat_lt route.source 4) (λ route. sum (submits route.source (bench_rounds n)) ≤ 20000)
     (λ route less. let all = submitted_in_all n route.source (ltb-true route.source 4 less) in omega (arith, all, few))
@@ -66,7 +68,8 @@ light_there : (n limit : ℕ) (rounds : List Round) (routes : List Route) → n 
 light_there n limit rounds routes few is same all =
     subst (λ (k : ℕ). light_enough (sum_by (λ (route : Route). sum (submits route.source rounds)) routes) k ≡ Ok tt) (sym is)
     (subst (λ (r : List Round). light_enough (sum_by (λ (route : Route). sum (submits route.source r)) routes) 256 ≡ Ok tt) (sym same)
-    (subst (λ (r : List Route). light_enough (sum_by (λ (route : Route). sum (submits route.source (bench_rounds n))) r) 256 ≡ Ok tt) (sym all)
+    (subst (λ (r : List Route). light_enough (sum_by (λ (route : Route). sum (submits route.source (bench_rounds n))) r) 256
+    ≡ Ok tt) (sym all)
     (light _ (length (routes_of bench_graph)) (carries n few) routes_counted)))
 
 -- ---- the whole
@@ -81,6 +84,7 @@ pub fills_bench : (n : ℕ) → n ≤ 20000 → FillsBenchJob n
 unfolding filled
 fills_bench n few text same =
     then_is _ (then_is _ (few_there n text.formats.items (ap (λ (t : TextShape). t.formats) same))
-    (then_is _ (subst (λ (rounds : List Round). enough_from rounds 0 (bench_files n) ≡ Ok tt) (sym (ap (λ (t : TextShape). t.rounds) same)) (all_enough n))
+    (then_is _ (subst (λ (rounds : List Round). enough_from rounds 0 (bench_files n) ≡ Ok tt)
+    (sym (ap (λ (t : TextShape). t.rounds) same)) (all_enough n))
     (light_there n text.limit text.rounds.items text.routes few (ap (λ (t : TextShape). t.limit) same)
     (ap (λ (t : TextShape). t.rounds) same) (ap (λ (t : TextShape). t.routes) same)))) refl

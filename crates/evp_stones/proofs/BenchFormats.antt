@@ -11,7 +11,8 @@ use Rattle.evp_gen.specs.Formats.{wide_value, calc_value, short_value, full_valu
 use Rattle.evp_gen.specs.Document.{sources_value}
 use Rattle.evp_gen.specs.Senders.{declared_field}
 use Rattle.evp_job.specs.declared.fault.JobFault.{JobFault}
-use Rattle.evp_job.specs.Formats.{FormatText, format_text, format_in, profile_in, Named, named_with, is_among, laid, record_length, known_format}
+use Rattle.evp_job.specs.Formats.{FormatText, format_text, format_in, profile_in, Named}
+use Rattle.evp_job.specs.Formats.{named_with, is_among, laid, record_length, known_format}
 use Rattle.evp_job.specs.Formats.{new_format, next_format, formats_in}
 use Rattle.evp_job.specs.Forms.{whole_number, number_within, text_in, name_in, list_in, list_within, object_in, no_others}
 use Rattle.evp_job.specs.Sources.{file_name_in, source_in, next_source, sources_in}

@@ -8,7 +8,8 @@ use Rattle.evp_expr.specs.Laws.{OneTree, TreeOrFault}
 use Rattle.evp_expr.specs.Parsing.{HasTree}
 use Rattle.evp_expr.specs.Tree.{Tree}
 use Rattle.evp_gen.specs.Formats.{whole}
-use Rattle.evp_gen.specs.Stones.{split_value, filter_value, router_value, transform_value, terminal_value, row_values, all_rows, stones_value}
+use Rattle.evp_gen.specs.Stones.{split_value, filter_value, router_value, transform_value}
+use Rattle.evp_gen.specs.Stones.{terminal_value, row_values, all_rows, stones_value}
 use Rattle.evp_job.specs.Expressions.{Reading, expression_in}
 use Rattle.evp_job.specs.Formats.{Named, named_with, known_format}
 use Rattle.evp_job.specs.Forms.{whole_number, number_within, text_in, list_in, list_within, object_in, no_others}
@@ -18,7 +19,8 @@ use Rattle.evp_job.specs.Steps.{under}
 use Rattle.evp_job.specs.Stones.{declared_in, stone_number, targets_in, terminal_in, filter_in, router_in, split_in, transform_in}
 use Rattle.evp_job.specs.Stones.{stone_in, stones_in}
 use Rattle.evp_job.specs.TextShape.{stone_with, filter, router, transform}
-use Rattle.evp_stones.specs.BenchJob.{bench_names, bench_layouts, bench_stones, parting, by_fifths, shortening, sharing, ending, wide, calc, thirds, squares, fifths, evens}
+use Rattle.evp_stones.specs.BenchJob.{bench_names, bench_layouts, bench_stones, parting, by_fifths, shortening}
+use Rattle.evp_stones.specs.BenchJob.{sharing, ending, wide, calc, thirds, squares, fifths, evens}
 use Rattle.evp_stones.proofs.BenchExpressions.{answered, expression_is, thirds_there, evens_there, fifths_there}
 use Rattle.evp_stones.proofs.BenchExpressions.{first_square, second_square, third_square, fourth_square}
 use Rattle.evp_stones.proofs.BenchSteps.{then_is, AreStonesFrom, stones_from}
@@ -55,14 +57,16 @@ ends reading k = (refl, refl)
 -- a filter of `wide`, whose text has this tree
 filters_wide : (reading : Reading) (k target : ℕ) (text : List ℕ) (tree : Tree) → number_within 0 65535 (Some (whole target)) ≡ Ok target
     → expression_in reading k 0 wide text ≡ Ok (bound_tree tree wide)
-    → stone_in reading bench_named k (filter_value (codes "wide") text target) ≡ Ok (stone_with (filter 0 (bound_tree tree wide)) (target ∷ []))
+    → stone_in reading bench_named k (filter_value (codes "wide") text target)
+    ≡ Ok (stone_with (filter 0 (bound_tree tree wide)) (target ∷ []))
 unfolding text_in object_in no_others kind_in declared_in filter_in stone_in
 filters_wide reading k target text tree there expression =
     then_is _ (ap (λ r. under (Field (codes "target")) r) there) (then_is _ expression refl)
 
 filters_calc : (reading : Reading) (k target : ℕ) (text : List ℕ) (tree : Tree) → number_within 0 65535 (Some (whole target)) ≡ Ok target
     → expression_in reading k 0 calc text ≡ Ok (bound_tree tree calc)
-    → stone_in reading bench_named k (filter_value (codes "calc") text target) ≡ Ok (stone_with (filter 1 (bound_tree tree calc)) (target ∷ []))
+    → stone_in reading bench_named k (filter_value (codes "calc") text target)
+    ≡ Ok (stone_with (filter 1 (bound_tree tree calc)) (target ∷ []))
 unfolding text_in object_in no_others kind_in declared_in filter_in stone_in
 filters_calc reading k target text tree there expression =
     then_is _ (ap (λ r. under (Field (codes "target")) r) there) (then_is _ expression refl)
@@ -70,7 +74,8 @@ filters_calc reading k target text tree there expression =
 -- the routers
 routes : (reading : Reading) (k : ℕ) → expression_in reading k 0 wide (codes "(x + 500) % 5") ≡ Ok (bound_tree fifths wide)
     → stone_in reading bench_named k (router_value (codes "wide") (codes "(x + 500) % 5") (20 ∷ 21 ∷ 22 ∷ 23 ∷ [])) ≡ Ok (by_fifths 0)
-unfolding whole_number number_within text_in list_in list_within object_in no_others kind_in declared_in stone_number targets_in router_in stone_in
+unfolding whole_number number_within text_in list_in list_within object_in no_others kind_in declared_in stone_number
+    targets_in router_in stone_in
 routes reading k expression = then_is _ expression refl
 
 -- a transform, whose setting's text has this tree
@@ -78,7 +83,8 @@ transforms : (reading : Reading) (k target : ℕ) (text : List ℕ) (tree : Tree
     → expression_in reading k 0 wide text ≡ Ok (bound_tree tree wide)
     → stone_in reading bench_named k (transform_value text target)
     ≡ Ok (stone_with (transform 0 1 (set_with 0 (bound_tree tree wide) ∷ [])) (target ∷ []))
-unfolding text_in list_in list_within object_in no_others kind_in declared_in setting_values setting_in settings_in next_set transform_in stone_in
+unfolding text_in list_in list_within object_in no_others kind_in declared_in setting_values setting_in settings_in
+    next_set transform_in stone_in
 transforms reading k target text tree there expression =
     then_is _ (ap (λ r. under (Field (codes "target")) r) there) (then_is _ (then_is _ (then_is _ expression refl) refl) refl)
 
@@ -86,10 +92,13 @@ transforms reading k target text tree there expression =
 
 module _ (one : OneTree) (no_fault : TreeOrFault) (reading : Reading) where
   third : (k : ℕ) → expression_in reading k 0 wide (codes "x % 3 != 0") ≡ Ok (bound_tree thirds wide)
-  third k = expression_is reading k 0 wide (codes "x % 3 != 0") thirds (answered one no_fault reading (codes "x % 3 != 0") thirds thirds_there) refl
+  third k =
+      expression_is reading k 0 wide (codes "x % 3 != 0") thirds
+      (answered one no_fault reading (codes "x % 3 != 0") thirds thirds_there) refl
 
   even : (k : ℕ) → expression_in reading k 0 calc (codes "y % 2 == 0") ≡ Ok (bound_tree evens calc)
-  even k = expression_is reading k 0 calc (codes "y % 2 == 0") evens (answered one no_fault reading (codes "y % 2 == 0") evens evens_there) refl
+  even k =
+      expression_is reading k 0 calc (codes "y % 2 == 0") evens (answered one no_fault reading (codes "y % 2 == 0") evens evens_there) refl
 
   fifth : (k : ℕ) → expression_in reading k 0 wide (codes "(x + 500) % 5") ≡ Ok (bound_tree fifths wide)
   fifth k = expression_is reading k 0 wide (codes "(x + 500) % 5") fifths

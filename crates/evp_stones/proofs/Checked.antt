@@ -16,7 +16,8 @@ seen_twice : {X Y Z : Type 0} (f : Y → Z) (h : X → Y) (answer : Result X Ref
 seen_twice f h (Ok x) = refl
 seen_twice f h (Err refusal) = refl
 
-pub checked : {D : Type 0} (held : D → Option Files) (misses faults_of : D → ℕ) (old new : D) (name : List ℕ) (answer : Result JobText Refusal)
+pub checked : {D : Type 0} (held : D → Option Files) (misses faults_of : D → ℕ) (old new : D) (name : List ℕ)
+    (answer : Result JobText Refusal)
     → Works held misses faults_of old new (IsJobOf name) (IsHeld name) (seen_by text_of answer)
     → Works held misses faults_of old new (IsCheck name) (IsHeld name) (seen_by (λ text. check_text (text_of text)) answer)
 checked held misses faults_of old new name answer works =

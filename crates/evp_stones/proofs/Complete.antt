@@ -41,7 +41,8 @@ module _ (says : Reply → Type 0) (reads : List ℕ → Type 0) (before after :
   line_whole : (reply : Reply) → Told before after old new reply status → ¬ Rose before after → (status ≡ 0) ⊎ PutLine old new status
   line_whole (Ok output) (inl told) sound = inl told.0
   line_whole (Ok output) (inr told) sound = absurd (sound told.1)
-  line_whole (Err refusal) told sound = inr (record { refusal = refusal; answered = told.0; whole = whole_line (refusal_line refusal) sound told.1 })
+  line_whole (Err refusal) told sound =
+      inr (record { refusal = refusal; answered = told.0; whole = whole_line (refusal_line refusal) sound told.1 })
 
   refused_whole : (refusal : Refusal) → says (Err refusal) → Told before after old new (Err refusal) status → ¬ Rose before after
       → (status ≡ 9) ⊎ Gave says (λ reply. Appends old new (bytes_of reply)) status
@@ -87,7 +88,8 @@ module _ {D K : Type 0} (held : D → Option Files) (misses faults_of : D → �
 
   complete_at : (line : Option Line) → Answers held misses faults_of sink_faults put line depot depot' sink sink' status
       → (files : Files) → held depot ≡ Some files
-      → IsComplete (IsDefined line files) (faults_of depot) (faults_of depot') (sink_faults sink) (sink_faults sink') (put sink) (put sink') status
+      → IsComplete (IsDefined line files) (faults_of depot) (faults_of depot') (sink_faults sink) (sink_faults sink') (put sink)
+      (put sink') status
   complete_at line answers files told =
       let says = IsDefined line files in
       let reads = IsAskedFor line files in

@@ -37,7 +37,8 @@ no_format held misses faults_of depot format file text none = record {
 -- one does
 pub with_format : {D : Type 0} (held : D → Option Files) (misses faults_of : D → ℕ) (old new : D) (format file : List ℕ) (text : TextShape)
     (to : KnownFormat) (answer : Result (List ℕ) Refusal) → format_named text.names text.formats format ≡ Some to
-    → Works held misses faults_of old new (λ files (a : Result (List ℕ) Refusal). a ≡ file_answer text to.format file files) (IsHeld file) answer
+    → Works held misses faults_of old new (λ files (a : Result (List ℕ) Refusal). a ≡ file_answer text to.format file files)
+    (IsHeld file) answer
     → Works held misses faults_of old new (λ files (a : Result (List ℕ) Refusal). a ≡ converts format file files text)
     (IsFileBy format file text) answer
 with_format held misses faults_of old new format file text to answer found works =
@@ -46,7 +47,8 @@ with_format held misses faults_of old new format file text to answer found works
     (λ files a is. rw found is) (λ files name is. record { to = to; found = found; held = is }) works
 
 -- the job was read
-pub with_job : {D : Type 0} (held : D → Option Files) (misses faults_of : D → ℕ) (old mid new : D) (job format file : List ℕ) (text : TextShape)
+pub with_job : {D : Type 0} (held : D → Option Files) (misses faults_of : D → ℕ) (old mid new : D) (job format file : List ℕ)
+    (text : TextShape)
     (answer : Result (List ℕ) Refusal) → Works held misses faults_of old mid (IsJobOf job) (IsHeld job) (Ok text)
     → Works held misses faults_of mid new (λ files (a : Result (List ℕ) Refusal). a ≡ converts format file files text)
     (IsFileBy format file text) answer

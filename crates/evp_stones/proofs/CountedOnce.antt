@@ -1,5 +1,6 @@
 -- Sums over the stones' accounts are sums over the job's routes: each route ends in one stone.
-use Rattle.std.proofs.Common.{◌≡◌, ◌⊎◌, inl, inr, ℕ, zero, suc, ◌+◌, ◌<◌, ◌≤◌, ◌==◌, Bool, true, false, List, [], ◌∷◌, length, Option, Some, None, refl, sym, ap, ◌∙◌, arith}
+use Rattle.std.proofs.Common.{◌≡◌, ◌⊎◌, inl, inr, ℕ, zero, suc, ◌+◌, ◌<◌, ◌≤◌, ◌==◌, Bool, true, false}
+use Rattle.std.proofs.Common.{List, [], ◌∷◌, length, Option, Some, None, refl, sym, ap, ◌∙◌, arith}
 use Rattle.std.proofs.lemmas.Bool.{cases_lt}
 use Rattle.std.proofs.lemmas.Bool.Decides.{nat_tests}
 use Rattle.std.proofs.lemmas.List.Sums.{sum_by-cons}
@@ -103,7 +104,8 @@ module _ (h : Route → ℕ) where
   ended whole stone k [] there = refl
   ended whole stone k (route ∷ later) there =
       let start : k ≡ k + 0 = omega arith in
-      let rest = ended whole stone (k + 1) later (λ i. let same : k + 1 + i ≡ k + suc i = omega arith in ap (slice_get whole) same ∙ there (suc i)) in
+      let rest = ended whole stone (k + 1) later
+      (λ i. let same : k + 1 + i ≡ k + suc i = omega arith in ap (slice_get whole) same ∙ there (suc i)) in
       ended_by whole k route (ending_from stone (k + 1) later) (sum_by (part stone) later) (last_stone route == stone)
       (ap (slice_get whole) start ∙ there 0) rest
       ∙ sym (sum_by-cons (part stone) route later)
@@ -116,8 +118,10 @@ module _ (h : Route → ℕ) where
         → sum_by g account.routes.items ≡ sum_by (part stone) job.routes
     of_account stone account numbered is =
         zip_sum (λ (a : RouteAccount) (n : ℕ). IsRouteAccount job n a) g (λ n. at_number (slice_get job.routes n))
-        (λ a n route. same n a route ∙ sym (ap at_number route.there)) account.routes.items (ending_from account.stone 0 job.routes) is.routes
-        ∙ ended job.routes account.stone 0 job.routes (λ i. let zero_first : 0 + i ≡ i = omega arith in ap (slice_get job.routes) zero_first)
+        (λ a n route. same n a route ∙ sym (ap at_number route.there)) account.routes.items
+        (ending_from account.stone 0 job.routes) is.routes
+        ∙ ended job.routes account.stone 0 job.routes
+        (λ i. let zero_first : 0 + i ≡ i = omega arith in ap (slice_get job.routes) zero_first)
         ∙ ap (λ s. sum_by (part s) job.routes) numbered
 
     of_accounts : (stone : ℕ) (accounts : List Account)

@@ -26,12 +26,13 @@ number_there bound n bytes small fits is =
 
 -- other texts are none
 pub no_number : (bound : ℕ) (bytes : List ℕ) → ((n : ℕ) → n < bound → bytes ≡ decimal n → ⊥) → number_in bound bytes ≡ None
-no_number bound bytes none = by (digits_value 10 bytes) (nat_lt (digits_value 10 bytes) bound && bytes_eq (decimal (digits_value 10 bytes)) bytes) refl where
-  by : (n : ℕ) (test : Bool) → (nat_lt n bound && bytes_eq (decimal n) bytes) ≡ test → number_if bound bytes n ≡ None
-  by n true e =
-      let parts = and_parts _ _ e in
-      absurd (none n (ltb-true n bound parts.0) (sym ((bytes_eq-Decides (decimal n) bytes).0 parts.1)))
-  by n false e = tested bound n bytes false e
+no_number bound bytes none =
+    by (digits_value 10 bytes) (nat_lt (digits_value 10 bytes) bound && bytes_eq (decimal (digits_value 10 bytes)) bytes) refl where
+      by : (n : ℕ) (test : Bool) → (nat_lt n bound && bytes_eq (decimal n) bytes) ≡ test → number_if bound bytes n ≡ None
+      by n true e =
+          let parts = and_parts _ _ e in
+          absurd (none n (ltb-true n bound parts.0) (sym ((bytes_eq-Decides (decimal n) bytes).0 parts.1)))
+      by n false e = tested bound n bytes false e
 
 -- a text that isn't UTF-8 is none
 pub no_text : (bound : ℕ) (bytes : List ℕ) → bound ≤ 2 ^ 32 → (IsUtf8 bytes → ⊥) → number_in bound bytes ≡ None
@@ -39,7 +40,8 @@ no_text bound bytes few bad = no_number bound bytes (λ n small is.
     bad (subst IsUtf8 (sym is) (IsUtf8-from_ascii (decimal n) (IsAscii-decimal n (omega (arith, few, small))))))
 
 -- neither is one that can't be read
-pub not_read : {E : Type 0} (bound : ℕ) (bytes : List ℕ) (r : Result ℕ E) (e : E) → bound ≤ 2 ^ 32 → r ≡ Err e → ParsesUnsigned 32 10 bytes r
+pub not_read : {E : Type 0} (bound : ℕ) (bytes : List ℕ) (r : Result ℕ E) (e : E) → bound ≤ 2 ^ 32 → r ≡ Err e
+    → ParsesUnsigned 32 10 bytes r
     → number_in bound bytes ≡ None
 not_read bound bytes r e few fails parses = no_number bound bytes (λ n small is.
     other n (parse-decimal 32 n bytes r (omega (arith, few, small)) (omega (arith, few, small)) is parses)) where

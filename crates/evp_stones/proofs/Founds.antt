@@ -43,7 +43,8 @@ pub found_for : (known : List KnownFormat) (from to : Layout) (formats : List Fi
 found_for known from to [] [] number found is = absurd (none_there from is)
 found_for known from to [] (other ∷ founds) number found is = absurd found
 found_for known from to (format ∷ formats) [] number found is = absurd found
-found_for known from to (format ∷ formats) (other ∷ founds) zero found is = found_first from to (format_layout known format) other is found.0
+found_for known from to (format ∷ formats) (other ∷ founds) zero found is =
+    found_first from to (format_layout known format) other is found.0
 found_for known from to (format ∷ formats) (other ∷ founds) (suc number) found is =
     found_for known from to formats founds number found.1 is
 

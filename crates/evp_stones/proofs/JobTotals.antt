@@ -1,5 +1,6 @@
 -- What a job's accounts come to, and how many there can be.
-use Rattle.std.proofs.Common.{◌≡◌, ℕ, zero, suc, ◌+◌, ◌<◌, ◌≤◌, ◌==◌, Bool, true, false, List, [], ◌∷◌, ◌++◌, length, map, get_or, Some, refl, sym, ap, ◌∙◌, subst, arith}
+use Rattle.std.proofs.Common.{◌≡◌, ℕ, zero, suc, ◌+◌, ◌<◌, ◌≤◌, ◌==◌, Bool, true, false, List, []}
+use Rattle.std.proofs.Common.{◌∷◌, ◌++◌, length, map, get_or, Some, refl, sym, ap, ◌∙◌, subst, arith}
 use Rattle.std.proofs.lemmas.List.{length-map}
 use Rattle.std.proofs.lemmas.List.Elements.{All-nil, All-cons}
 use Rattle.std.proofs.lemmas.Option.{slice_get-get_or}
@@ -29,14 +30,16 @@ use Rattle.evp_stones.proofs.TotalSums.{four, rounds_are}
 
 -- ---- how many
 
-few_rounds : (kept : List Carried) (frozen : List Bool) (arrivals : List (List Carried)) → length (rounds_from kept frozen arrivals) ≤ length frozen
+few_rounds : (kept : List Carried) (frozen : List Bool) (arrivals : List (List Carried))
+    → length (rounds_from kept frozen arrivals) ≤ length frozen
 few_rounds kept [] arrivals = omega arith
 few_rounds kept (b ∷ later) [] = omega arith
 few_rounds kept (b ∷ later) (new ∷ arrivals) =
     let more = few_rounds (round_of b (kept ++ new)).held later arrivals in
     omega (arith, more)
 
-few_by : (b : Bool) (number most : ℕ) (numbers : List ℕ) → length numbers ≤ most → length (if b then number ∷ numbers else numbers) ≤ suc most
+few_by : (b : Bool) (number most : ℕ) (numbers : List ℕ) → length numbers ≤ most
+    → length (if b then number ∷ numbers else numbers) ≤ suc most
 few_by true number most numbers few = omega (arith, few)
 few_by false number most numbers few = omega (arith, few)
 

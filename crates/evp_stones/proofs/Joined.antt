@@ -85,11 +85,13 @@ works_cut {X = X} {Y = Y} held misses faults_of old new says says' reads reads' 
       told_cut : (told : Option Files) → IfSome told (λ files. Settles (says files) (reads files) (Err refusal))
           → IfSome told (λ files. Settles (says' files) (reads' files) (Err refusal))
       told_cut None settled = tt
-      told_cut (Some files) settled = settled_cut (says files) (says' files) (reads files) (reads' files) refusal (on files) (more files) settled
+      told_cut (Some files) settled =
+          settled_cut (says files) (says' files) (reads files) (reads' files) refusal (on files) (more files) settled
 
 -- ---- works that succeeded, and then others
 pub works_both : {D X Y : Type 0} (held : D → Option Files) (misses faults_of : D → ℕ) (old mid new : D)
-    (before : Files → Result X Refusal → Type 0) (says says' : Files → Result Y Refusal → Type 0) (reads₀ reads reads' : Files → List ℕ → Type 0)
+    (before : Files → Result X Refusal → Type 0) (says says' : Files → Result Y Refusal → Type 0)
+    (reads₀ reads reads' : Files → List ℕ → Type 0)
     (x : X) (answer : Result Y Refusal)
     → ((files : Files) → before files (Ok x) → (a : Result Y Refusal) → says files a → says' files a)
     → ((files : Files) → before files (Ok x) → (name : List ℕ) → reads files name → reads' files name)

@@ -1,5 +1,5 @@
 -- Lines, refusals and what is shown, computed on small values by hand.
-use Rattle.std.proofs.Common.{◌≡◌, [], ◌∷◌, codes, pos, Some, None, refl}
+use Rattle.std.proofs.Common.{◌≡◌, [], ◌∷◌, ◌++◌, codes, pos, Some, None, refl}
 use Rattle.std.specs.Fmt.{digits}
 use Rattle.hex.specs.Hex.{encode_with}
 use Rattle.evp_base.specs.declared.kind.Kind.TheVariants.{Int}
@@ -58,6 +58,7 @@ item : FileItem
 item = item_of 0 (8 ∷ 0 ∷ 0 ∷ 0 ∷ 2 ∷ 0 ∷ 0 ∷ 0 ∷ 5 ∷ 0 ∷ 255 ∷ 255 ∷ [])
 
 shown_list : shown (counted ∷ []) (item ∷ [])
-    ≡ codes "format 0 little pointer 4 aa01\ntype p length 8\nfield x integer[n] size 2 offset 0\nfield n integer size 4 offset 4\n#0 format 0 {x=[5,-1],n=2}\n"
+    ≡ codes "format 0 little pointer 4 aa01\ntype p length 8\nfield x integer[n] size 2 offset 0\n"
+    ++ codes "field n integer size 4 offset 4\n#0 format 0 {x=[5,-1],n=2}\n"
 unfolding counted item digits encode_with
 shown_list = refl

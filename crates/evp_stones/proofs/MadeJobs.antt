@@ -1,5 +1,6 @@
 -- The job that the generator's document and files make.
-use Rattle.std.proofs.Common.{◌≡◌, ◌≢◌, ℕ, ◌+◌, ◌<◌, ◌≤◌, ◌^◌, List, [], ◌∷◌, ◌++◌, length, map, take, get_or, Some, None, Result, Ok, Err, IsOk, IsUtf8, refl, sym, ap, ◌∙◌, subst, arith}
+use Rattle.std.proofs.Common.{◌≡◌, ◌≢◌, ℕ, ◌+◌, ◌<◌, ◌≤◌, ◌^◌, List, [], ◌∷◌, ◌++◌, length, map, take, get_or}
+use Rattle.std.proofs.Common.{Some, None, Result, Ok, Err, IsOk, IsUtf8, refl, sym, ap, ◌∙◌, subst, arith}
 use Rattle.std.proofs.lemmas.List.{length-map, map_more}
 use Rattle.std.proofs.lemmas.List.Elements.{All-nil, All-cons}
 use Rattle.std.proofs.lemmas.Slice.Zip.{all_zipped_more}
@@ -58,7 +59,8 @@ accepted n bytes law utf8 is Memory other refusal = other refl
 -- ---- the files
 
 -- one file more was read
-pub read_more : {X : Type 0} (known : List KnownFormat) (limit : ℕ) (bytes : X → List ℕ) (xs : List X) (i : ℕ) (x : X) (files : List RecordFile)
+pub read_more : {X : Type 0} (known : List KnownFormat) (limit : ℕ) (bytes : X → List ℕ) (xs : List X) (i : ℕ) (x : X)
+    (files : List RecordFile)
     (file : RecordFile) → i < length xs → x ≡ get_or xs i x → AreRead known limit (map bytes (take i xs)) files
     → file_of known limit (bytes x) ≡ Ok file → AreRead known limit (map bytes (take (i + 1) xs)) (files ++ file ∷ [])
 read_more known limit bytes xs i x files file below is are exact =
@@ -79,7 +81,8 @@ module _ (is_read : SentIsRead) (is_short : SentIsShort) (n : ℕ) (few : n ≤ 
 
   pub all_readable : All (IsReadable known limit) (all_sent n)
   all_readable =
-      All-cons (IsReadable known limit) _ (sent_bytes Le32 1 n ∷ sent_bytes Be64 2 n ∷ sent_bytes Be32 3 n ∷ []) (readable Le64 0 (omega arith))
+      All-cons (IsReadable known limit) _ (sent_bytes Le32 1 n ∷ sent_bytes Be64 2 n ∷ sent_bytes Be32 3 n ∷ [])
+      (readable Le64 0 (omega arith))
       (All-cons (IsReadable known limit) _ (sent_bytes Be64 2 n ∷ sent_bytes Be32 3 n ∷ []) (readable Le32 1 (omega arith))
       (All-cons (IsReadable known limit) _ (sent_bytes Be32 3 n ∷ []) (readable Be64 2 (omega arith))
       (All-cons (IsReadable known limit) _ [] (readable Be32 3 (omega arith)) (All-nil (IsReadable known limit)))))

@@ -5,7 +5,8 @@ use Rattle.evp_stones.specs.declared.refusal.Refusal.{Refusal}
 use Rattle.evp_stones.specs.declared.refusal.Refusal.TheVariants.{Words, Absent, Read, TooLong, NotJson, Job, Data, Order, Memory}
 use Rattle.evp_stones.specs.Steps.{Works, Settles, seen_by, IsWords, IsAbsent, IsFailed}
 
-settled_on : {X Y : Type 0} (f : X → Y) (says : Result X Refusal → Type 0) (says' : Result Y Refusal → Type 0) (reads reads' : List ℕ → Type 0)
+settled_on : {X Y : Type 0} (f : X → Y) (says : Result X Refusal → Type 0) (says' : Result Y Refusal → Type 0)
+    (reads reads' : List ℕ → Type 0)
     (answer : Result X Refusal) → ((a : Result X Refusal) → says a → says' (seen_by f a)) → ((name : List ℕ) → reads name → reads' name)
     → Settles says reads answer → Settles says' reads' (seen_by f answer)
 settled_on f says says' reads reads' (Ok x) on more settled = on (Ok x) settled
@@ -53,4 +54,5 @@ works_on held misses faults_of old new f says says' reads reads' answer on more 
       told_on : (told : Option Files) → IfSome told (λ files. Settles (says files) (reads files) answer)
           → IfSome told (λ files. Settles (says' files) (reads' files) (seen_by f answer))
       told_on None settled = tt
-      told_on (Some files) settled = settled_on f (says files) (says' files) (reads files) (reads' files) answer (on files) (more files) settled
+      told_on (Some files) settled =
+          settled_on f (says files) (says' files) (reads files) (reads' files) answer (on files) (more files) settled

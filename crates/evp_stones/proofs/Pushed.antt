@@ -1,12 +1,14 @@
 -- What a push leaves, where it succeeded.
-use Rattle.std.proofs.Common.{◌≡◌, ℕ, ◌+◌, zero, suc, ◌<◌, false, List, [], ◌∷◌, ◌++◌, length, All, get_or, Result, Ok, Err, sym, ap, ◌∙◌, subst, arith}
+use Rattle.std.proofs.Common.{◌≡◌, ℕ, ◌+◌, zero, suc, ◌<◌, false, List, [], ◌∷◌, ◌++◌, length}
+use Rattle.std.proofs.Common.{All, get_or, Result, Ok, Err, sym, ap, ◌∙◌, subst, arith}
 use Rattle.std.proofs.Common.{if◌then◌else◌}
 use Rattle.std.proofs.lemmas.Bool.{false≢true}
 use Rattle.std.proofs.lemmas.List.{length-append}
 use Rattle.std.proofs.lemmas.List.Elements.{All-append}
 use Rattle.std.specs.Result.{is_err, is_ok}
 
-pub pushed : {T E X : Type 0} (result : Result T E) (new more same : List X) → is_err result ≡ false → new ≡ (if is_ok result then more else same)
+pub pushed : {T E X : Type 0} (result : Result T E) (new more same : List X) → is_err result ≡ false
+    → new ≡ (if is_ok result then more else same)
     → new ≡ more
 pushed (Ok x) new more same e is = is
 pushed (Err x) new more same e is = absurd (false≢true (sym e))

@@ -96,7 +96,8 @@ none_read held misses faults_of depot known limit names = record {
 pub next_read : {D : Type 0} (held : D → Option Files) (misses faults_of : D → ℕ) (old mid new : D) (known : List KnownFormat) (limit : ℕ)
     (names : List (List ℕ)) (k : ℕ) (name : List ℕ) (made : List RecordFile) (answer : Result RecordFile Refusal)
     → slice_get names k ≡ Some name → HaveRead held misses faults_of old mid known limit names k (Ok made)
-    → Works held misses faults_of mid new (λ files (a : Result RecordFile Refusal). a ≡ file_named known limit files name) (IsHeld name) answer
+    → Works held misses faults_of mid new (λ files (a : Result RecordFile Refusal). a ≡ file_named known limit files name)
+    (IsHeld name) answer
     → HaveRead held misses faults_of old new known limit names (k + 1) (seen_by (λ file. made ++ file ∷ []) answer)
 next_read held misses faults_of old mid new known limit names k name made answer there before one =
     works_both held misses faults_of old mid new
@@ -107,7 +108,8 @@ next_read held misses faults_of old mid new known limit names k name made answer
     (λ files sound a is. is ∙ sym (files_next known limit files names k name made there sound))
     (λ files sound wanted is. record { number = k; before = made; sound = sym sound; wanted = name; there = there; held = is })
     before
-    (works_on held misses faults_of mid new (λ file. made ++ file ∷ []) (λ files (a : Result RecordFile Refusal). a ≡ file_named known limit files name)
+    (works_on held misses faults_of mid new (λ file. made ++ file ∷ [])
+    (λ files (a : Result RecordFile Refusal). a ≡ file_named known limit files name)
     (λ files (a : Result (List RecordFile) Refusal). a ≡ seen_by (λ file. made ++ file ∷ []) (file_named known limit files name))
     (IsHeld name) (IsHeld name) answer (λ files a is. ap (seen_by (λ file. made ++ file ∷ [])) is) (λ files wanted is. is) one)
 
@@ -117,7 +119,8 @@ pub read_cut : {D : Type 0} (held : D → Option Files) (misses faults_of : D �
     → Works held misses faults_of old new (λ files (a : Result (List RecordFile) Refusal). a ≡ files_named known limit files names)
     (IsNext known limit names) (Err refusal)
 read_cut held misses faults_of old new known limit names k refusal works =
-    works_cut held misses faults_of old new (λ files (a : Result (List RecordFile) Refusal). a ≡ files_named known limit files (take k names))
+    works_cut held misses faults_of old new
+    (λ files (a : Result (List RecordFile) Refusal). a ≡ files_named known limit files (take k names))
     (λ files (a : Result (List RecordFile) Refusal). a ≡ files_named known limit files names) (IsNext known limit names)
     (IsNext known limit names) refusal (λ files r is. files_cut known limit files names k r is) (λ files name is. is) works
 
@@ -128,9 +131,11 @@ pub all_read : {D : Type 0} (held : D → Option Files) (misses faults_of : D �
     → Works held misses faults_of old new (λ files (a : Result (List RecordFile) Refusal). a ≡ files_named known limit files names)
     (IsNext known limit names) answer
 all_read held misses faults_of old new known limit names k answer long works =
-    works_as held misses faults_of old new (λ files (a : Result (List RecordFile) Refusal). a ≡ files_named known limit files (take k names))
+    works_as held misses faults_of old new
+    (λ files (a : Result (List RecordFile) Refusal). a ≡ files_named known limit files (take k names))
     (λ files (a : Result (List RecordFile) Refusal). a ≡ files_named known limit files names) (IsNext known limit names)
-    (IsNext known limit names) answer (λ files a is. is ∙ ap (files_named known limit files) (take_all k names long)) (λ files name is. is) works
+    (IsNext known limit names) answer (λ files a is. is ∙ ap (files_named known limit files) (take_all k names long))
+    (λ files name is. is) works
 
 -- the name of a source's file
 pub file_at : (sources : List SourceText) (k : ℕ) (source : SourceText) → k < length sources → source ≡ get_or sources k source

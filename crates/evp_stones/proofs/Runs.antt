@@ -41,7 +41,8 @@ no_walk held misses faults_of old new name order refusal works =
 -- the report, or the refusal of the turns
 pub walked_by : {D : Type 0} (held : D → Option Files) (misses faults_of : D → ℕ) (old new : D) (order : List ℕ) (job : JobShape)
     (turns : Result (List ℕ) Refusal)
-    → Works held misses faults_of old new (λ files (a : Result (List ℕ) Refusal). a ≡ turns_named (actors_of job) order files) (IsHeld order) turns
+    → Works held misses faults_of old new (λ files (a : Result (List ℕ) Refusal). a ≡ turns_named (actors_of job) order files)
+    (IsHeld order) turns
     → Works held misses faults_of old new (λ files (a : Result (List ℕ) Refusal). a ≡ walked order files job) (IsHeld order)
     (seen_by (λ numbers. report job) turns)
 walked_by held misses faults_of old new order job turns works =

@@ -19,7 +19,8 @@ four p q r s = rw (p, q, r, s) refl
 
 -- ---- one element more
 
-last_more : {X : Type 0} (count : X → ℕ) (xs : List X) (i : ℕ) (d : X) → i < length xs → last_by count (take (suc i) xs) ≡ count (get_or xs i d)
+last_more : {X : Type 0} (count : X → ℕ) (xs : List X) (i : ℕ) (d : X) → i < length xs
+    → last_by count (take (suc i) xs) ≡ count (get_or xs i d)
 last_more count [] i d below = absurd (omega (arith, below))
 last_more count (x ∷ xs) zero d below = refl
 last_more count (x ∷ []) (suc i) d below = absurd (omega (arith, below))

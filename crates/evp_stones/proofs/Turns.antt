@@ -79,7 +79,8 @@ turn_refused actors name bytes k at made refusal few below bad so_far =
     so_far (suc lines) (omega (arith, few))
     ∙ ap (λ turns. turns >>= λ others. Ok (made ++ others)) (opened actors name lines at (drop at bytes) (there at bytes below))
     ∙ bound_err (turn_at name at (number_in actors (first_line (drop at bytes))))
-    (λ actor. turns_from actors name lines (at + length (first_line (drop at bytes)) + 1) (behind_line (drop at bytes)) >>= λ others. Ok (actor ∷ others))
+    (λ actor. turns_from actors name lines (at + length (first_line (drop at bytes)) + 1) (behind_line (drop at bytes))
+    >>= λ others. Ok (actor ∷ others))
     made refusal bad
 
 turn_added : (actors : ℕ) (name bytes : List ℕ) (k at : ℕ) (made : List ℕ) (actor : ℕ) → at < length bytes

@@ -1,6 +1,7 @@
 -- What `convert JOB FORMAT FILE` answers: each record of the file, converted to the job's format of
 -- that name, or why it isn't.
-use Rattle.std.specs.Prelude.{◌≡◌, ◌⊎◌, ℕ, List, [], map, Option, Some, None, slice_get, Result, Ok, Err}
+use Rattle.std.specs.Prelude.{◌≡◌, ◌⊎◌, ℕ, List, [], map, Option, Some, None, slice_get}
+use Rattle.std.specs.Prelude.{Result, Ok, Err}
 use Rattle.std.specs.List.{position_from}
 use Rattle.std.specs.Option.{option_and_then}
 use Rattle.evp_action.specs.declared.acted.Reason.TheVariants.{Clash, Unfit, Large}

@@ -16,7 +16,8 @@ cause_text other = []
 
 -- a file has a fault of this text at this offset
 abbrev pub data_text : List ℕ → ℕ → List ℕ → List ℕ
-data_text name at cause = codes "data " ++ quoted name ++ counted (codes " at ") at ++ codes " " ++ cause
+data_text name at cause =
+    codes "data " ++ quoted name ++ counted (codes " at ") at ++ codes " " ++ cause
 
 abbrev pub refusal_text : Refusal → List ℕ
 refusal_text Words = codes "words"

@@ -48,8 +48,8 @@ abbrev pub Follows : {X Y : Type 0} → (X → Result Y Refusal → Type 0) → 
 Follows rest (Ok x) answer = rest x answer
 Follows rest (Err refusal) answer = answer ≡ Err refusal
 
--- What a call answered is what a definition says, but for two refusals: a read that failed is one of
--- a name that may be read, and of want of memory nothing is said.
+-- What a call answered is what a definition says, but for two refusals: a read that failed is one
+-- of a name that may be read, and of want of memory nothing is said.
 abbrev pub Settles : {X : Type 0} → (Result X Refusal → Type 0) → (List ℕ → Type 0)
     → Result X Refusal → Type 0
 Settles says reads (Err (Read name)) = reads name
@@ -65,7 +65,8 @@ pub record Works {D X : Type 0} (held : D → Option Files) (misses faults_of : 
   pub misses_stay : misses old ≤ misses new
   pub faults_stay : faults_of old ≤ faults_of new
   pub still_held : OnSome (held old) (held new ≡ held old)
-  -- a name is absent only where the depot's misses rose, and a read failed only where its faults did
+  -- a name is absent only where the depot's misses rose, and a read failed only where its faults
+  -- did
   pub missed : IsAbsent answer → Rose (misses old) (misses new)
   pub failed : IsFailed answer → Rose (faults_of old) (faults_of new)
   -- by what the depot holds, where it tells that

@@ -36,7 +36,8 @@ pub record IsWholeJob (name : List ℕ) (files : Files) (answer : Result JobShap
   pub is : IsJobOf name files (seen_by text_of text)
   pub answered : answer ≡ (text >>= λ kept. with_files kept files)
 
--- the file of this name belongs to a source of the job, the files before it are sound, and it is held
+-- the file of this name belongs to a source of the job, the files before it are sound, and it is
+-- held
 pub record IsSourceFile (job : List ℕ) (files : Files) (name : List ℕ) : Type 0 where
   pub text : JobText
   pub is : IsJobOf job files (Ok (text_of text))

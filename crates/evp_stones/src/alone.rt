@@ -23,7 +23,8 @@ use std::alloc::Global;
 /// program's status. Words that are no line are refused. It waits for nobody.
 ///
 /// Nothing is written before all is worked out. Then the whole answer goes out, in pieces of some
-/// kilobytes, or the line of a refusal; a front of it where the sink fails. Writing takes no memory.
+/// kilobytes, or the line of a refusal; a front of it where the sink fails. Writing takes no
+/// memory.
 pub fn alone<D: Depot, K: Sink>(alloc: Global, words: &[String], depot: &mut D, sink: &mut K) -> u8
     requires { IfSome (line_of (map string_bytes words.now)) IsAlone }
     ensures answers { Answers D.held D.misses D.faults K.faults K.put

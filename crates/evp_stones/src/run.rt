@@ -36,8 +36,8 @@ pub fn run<R: Threads + Wait + Sync, D: Depot, G: Gate + Sync>(
     Ok(Carried::by_workers(rt, alloc, job, workers, gate)?)
 }
 
-/// The same on this thread, carried by the turns that the file `order` lists, and then by turns in rotation. That
-/// file is read behind all that the job is made of.
+/// The same on this thread, carried by the turns that the file `order` lists, and then by turns in
+/// rotation. That file is read behind all that the job is made of.
 pub fn walk<D: Depot>(
     alloc: Global,
     depot: &mut D,

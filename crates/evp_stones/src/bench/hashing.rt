@@ -67,7 +67,8 @@ impl Sink for Hashing {
 
 // Adds bytes to what was hashed. It does nothing when it runs.
 fn note(taken: &mut Log<u8, ()>, bytes: &[u8])
-    ensures { map (λ pair. pair.0) taken.new.items ≡ map (λ pair. pair.0) taken.old.items ++ bytes.now }
+    ensures { map (λ pair. pair.0) taken.new.items
+        ≡ map (λ pair. pair.0) taken.old.items ++ bytes.now }
 {
     for byte in bytes {
         *taken = taken.and(byte, &());

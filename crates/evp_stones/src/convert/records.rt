@@ -160,7 +160,8 @@ fn outcome_of(
 
 // What is found for the format of this number.
 fn found_at(founds: &[Option<Found>], number: u16) -> Option<&Found>
-    ensures { option_copied result ≡ option_and_then (λ found. found) (slice_get founds.now number) }
+    ensures { option_copied result
+        ≡ option_and_then (λ found. found) (slice_get founds.now number) }
 {
     match founds.get(usize::from(number)) {
         Some(Some(found)) => Some(found),

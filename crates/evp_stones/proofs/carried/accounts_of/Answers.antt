@@ -10,4 +10,5 @@ run-requires c = rw (actors_are c.in_ok-world.world c.args.job.now c.in_ok-world
 pub returns : goal.returns
 returns c =
     subst (λ job. AreAccounts job c.accounts.result.items)
-    (c.in_ok-finish.ensures.same.job ∙ ran_job _ _ c.args.turns.now c.in_ok-run.ensures.turned ∙ c.in_ok-world.ensures.job) c.accounts.ensures
+    (c.in_ok-finish.ensures.same.job ∙ ran_job _ _ c.args.turns.now c.in_ok-run.ensures.turned ∙ c.in_ok-world.ensures.job)
+    c.accounts.ensures

@@ -12,14 +12,16 @@ loop-number-preserved g c =
     let name = c.index-names-number in
     let found = looked_up c.args.formats.now c.loop-number.number c.get.result c.get.ensures.lookup in
     through_one name.result c.loop-number.invariant c.loop-number-test.true
-    (ap (declared_line name.result) found ∙ ap (declared_in c.args.formats.now c.loop-number.number) name.is) c.in_ok-put_named_format.ensures
+    (ap (declared_line name.result) found ∙ ap (declared_in c.args.formats.now c.loop-number.number) name.is)
+    c.in_ok-put_named_format.ensures
 
 pub returns-in_err-put_named_format : goal.returns-in_err-put_named_format
 returns-in_err-put_named_format g c =
     let name = c.index-names-number in
     let found = looked_up c.args.formats.now c.loop-number.number c.get.result c.get.ensures.lookup in
     through_cut name.result c.loop-number.invariant c.loop-number-test.true
-    (ap (declared_line name.result) found ∙ ap (declared_in c.args.formats.now c.loop-number.number) name.is) c.in_err-put_named_format.ensures
+    (ap (declared_line name.result) found ∙ ap (declared_in c.args.formats.now c.loop-number.number) name.is)
+    c.in_err-put_named_format.ensures
     c.from_residual.ensures.0
 
 pub returns : goal.returns

@@ -3,7 +3,8 @@ use Rattle.std.proofs.lemmas.Bool.{false≢true}
 use Rattle.std.proofs.lemmas.Slice.Eq.{bytes_eq-Decides}
 use Rattle.evp_stones.proofs.DecimalNumbers.{no_text, not_read, number_read, number_there}
 use Rattle.evp_stones.proofs.decimal_number.number_in.Goals as goal
-use Rattle.evp_stones.proofs.decimal_number.number_in.Goals.{else-number-bound-via-then-number-bound+else-eq, else-number-bound-via-else-number-bound}
+use Rattle.evp_stones.proofs.decimal_number.number_in.Goals.{else-number-bound-via-then-number-bound+else-eq}
+use Rattle.evp_stones.proofs.decimal_number.number_in.Goals.{else-number-bound-via-else-number-bound}
 
 pub returns-in_default : goal.returns-in_default
 returns-in_default c =

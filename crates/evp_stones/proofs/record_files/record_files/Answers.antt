@@ -31,9 +31,12 @@ loop-source-preserved g c =
     let items : c.push.new.self.items ≡ c.loop-source.records.items ++ c.in_ok-file.file ∷ [] =
     pushed c.push.result c.push.new.self.items _ _ (sym c.is_err.ensures.value ∙ c.if-is_err.false) c.push.ensures.items in
     record {
-      works = subst (λ made. HaveRead g.D.Depot.held g.D.Depot.misses g.D.Depot.faults c.args.depot.now c.record_file.new.depot text.formats.items
+      works =
+          subst (λ made. HaveRead g.D.Depot.held g.D.Depot.misses g.D.Depot.faults c.args.depot.now c.record_file.new.depot
+          text.formats.items
           text.limit (file_names text) (i + 1) (Ok made)) (sym items)
-          (next_read g.D.Depot.held g.D.Depot.misses g.D.Depot.faults _ _ _ text.formats.items text.limit (file_names text) i c.as_str.result.now
+          (next_read g.D.Depot.held g.D.Depot.misses g.D.Depot.faults _ _ _ text.formats.items text.limit
+          (file_names text) i c.as_str.result.now
           c.loop-source.records.items (Ok c.in_ok-file.file) there c.loop-source.invariant.works c.in_ok-file.ensures.works);
       count = length_more c.push.new.self.items c.loop-source.records.items c.in_ok-file.file i items c.loop-source.invariant.count;
       whole = all_more (IsWhole text.formats.items) c.push.new.self.items c.loop-source.records.items c.in_ok-file.file items

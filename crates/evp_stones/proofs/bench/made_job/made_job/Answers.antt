@@ -27,7 +27,8 @@ read_files-requires-clause-readable c =
     let files = ap (map (λ one. one.items)) c.deref-2.ensures.value ∙ c.into_parts-document.ensures.files ∙ c.in_ok-make.ensures.files in
     all_seen (IsReadable text.formats.items text.limit) (λ one. one.items) c.deref-2.result.now
     (subst (All (IsReadable text.formats.items text.limit)) (sym files)
-    (all_readable c.sent_is_read.ensures c.sent_is_short.ensures n c.requires.few text.formats.items text.limit bounds.0 (omega (arith, most))))
+    (all_readable c.sent_is_read.ensures c.sent_is_short.ensures n c.requires.few text.formats.items text.limit bounds.0
+    (omega (arith, most))))
 
 pub fill-requires-clause-read : goal.fill-requires-clause-read
 fill-requires-clause-read c =
@@ -40,8 +41,10 @@ fill-requires-clause-read c =
     let files = ap (map (λ one. one.items)) c.deref-2.ensures.value ∙ c.into_parts-document.ensures.files ∙ c.in_ok-make.ensures.files in
     let same = text_is n c.in_ok-make.field-0.job (text_of text) law.0 c.in_ok-make.ensures.job
     (subst (λ bytes. StatesJob bytes (Ok (text_of text))) document c.in_ok-text.ensures.states) in
-    let are = files_are c.sent_is_read.ensures c.sent_is_short.ensures n c.requires.few text.formats.items text.limit bounds.0 (omega (arith, most))
-    c.in_ok-read.read.items (subst (λ all. AreRead text.formats.items text.limit all c.in_ok-read.read.items) files c.in_ok-read.ensures.read) in
+    let are = files_are c.sent_is_read.ensures c.sent_is_short.ensures n c.requires.few text.formats.items text.limit bounds.0
+    (omega (arith, most))
+    c.in_ok-read.read.items (subst (λ all. AreRead text.formats.items text.limit all c.in_ok-read.read.items)
+    files c.in_ok-read.ensures.read) in
     record { each_source = file_for_each n text c.in_ok-read.read.items same are; whole = c.in_ok-read.ensures.whole }
 
 pub fill-requires-clause-right : goal.fill-requires-clause-right
@@ -55,8 +58,10 @@ fill-requires-clause-right c =
     let files = ap (map (λ one. one.items)) c.deref-2.ensures.value ∙ c.into_parts-document.ensures.files ∙ c.in_ok-make.ensures.files in
     let same = text_is n c.in_ok-make.field-0.job (text_of text) law.0 c.in_ok-make.ensures.job
     (subst (λ bytes. StatesJob bytes (Ok (text_of text))) document c.in_ok-text.ensures.states) in
-    let are = files_are c.sent_is_read.ensures c.sent_is_short.ensures n c.requires.few text.formats.items text.limit bounds.0 (omega (arith, most))
-    c.in_ok-read.read.items (subst (λ all. AreRead text.formats.items text.limit all c.in_ok-read.read.items) files c.in_ok-read.ensures.read) in
+    let are = files_are c.sent_is_read.ensures c.sent_is_short.ensures n c.requires.few text.formats.items text.limit bounds.0
+    (omega (arith, most))
+    c.in_ok-read.read.items (subst (λ all. AreRead text.formats.items text.limit all c.in_ok-read.read.items)
+    files c.in_ok-read.ensures.read) in
     filled_there n text c.in_ok-read.read.items law.1 same are
 
 pub returns : goal.returns

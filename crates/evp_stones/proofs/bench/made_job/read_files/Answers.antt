@@ -18,7 +18,8 @@ loop-file-preserved c =
       read = subst (AreRead text.formats.items text.limit (map (λ one. one.items) (take (i + 1) files))) (sym items)
           (read_more text.formats.items text.limit (λ one. one.items) files i c.file-item.result c.loop-file.records.items file
           c.loop-file-test.true c.file-item.is c.loop-file.invariant.read
-          (subst (λ bytes. file_of text.formats.items text.limit bytes ≡ Ok file) c.as_slice.ensures.value c.in_ok-record_file.ensures.exact));
+          (subst (λ bytes. file_of text.formats.items text.limit bytes ≡ Ok file)
+          c.as_slice.ensures.value c.in_ok-record_file.ensures.exact));
       whole = all_more (IsWhole text.formats.items) c.push.new.self.items c.loop-file.records.items file items
           c.loop-file.invariant.whole c.in_ok-record_file.ensures.whole;
     }

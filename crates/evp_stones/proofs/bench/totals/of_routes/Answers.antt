@@ -12,7 +12,8 @@ loop-route-preserved c =
     let route = c.route-item.result in
     record {
       made = c.both-totals.ensures ∙ ap (λ (t : Totals). both t c.of_rounds.result) c.loop-route.invariant.made
-          ∙ ap (both (sums route_of (take i routes))) (c.of_rounds.ensures.totals ∙ ap rounds_totals c.as_slice.ensures.value ∙ ap route_of c.route-item.is)
+          ∙ ap (both (sums route_of (take i routes)))
+          (c.of_rounds.ensures.totals ∙ ap rounds_totals c.as_slice.ensures.value ∙ ap route_of c.route-item.is)
           ∙ sym (sums_more route_of routes i route c.loop-route-test.true);
       within = within_both (i * 2 ^ 70) (2 ^ 70) ((i + 1) * 2 ^ 70) c.loop-route.totals c.of_rounds.result c.both-totals.result
           (omega arith) c.both-totals.ensures c.loop-route.invariant.within c.of_rounds.ensures.within;

@@ -12,7 +12,8 @@ loop-account-preserved c =
     let account = c.account-item.result in
     record {
       made = c.both-totals.ensures ∙ ap (λ (t : Totals). both t c.of_routes.result) c.loop-account.invariant.made
-          ∙ ap (both (sums stone_of (take i accounts))) (c.of_routes.ensures.totals ∙ ap (sums route_of) c.as_slice.ensures.value ∙ ap stone_of c.account-item.is)
+          ∙ ap (both (sums stone_of (take i accounts)))
+          (c.of_routes.ensures.totals ∙ ap (sums route_of) c.as_slice.ensures.value ∙ ap stone_of c.account-item.is)
           ∙ sym (sums_more stone_of accounts i account c.loop-account-test.true);
       within = within_both (i * 2 ^ 80) (2 ^ 80) ((i + 1) * 2 ^ 80) c.loop-account.totals c.of_routes.result c.both-totals.result
           (omega arith) c.both-totals.ensures c.loop-account.invariant.within c.of_routes.ensures.within;

@@ -10,7 +10,8 @@ loop-number-init g c = through_none
 pub loop-number-preserved : goal.loop-number-preserved
 loop-number-preserved g c =
     through_one c.index-outcomes-number.result c.loop-number.invariant c.loop-number-test.true
-    (ap (λ outcome. numbered_line c.loop-number.number (outcome_text c.args.to.now outcome)) c.index-outcomes-number.is) c.in_ok-put_line.ensures
+    (ap (λ outcome. numbered_line c.loop-number.number (outcome_text c.args.to.now outcome)) c.index-outcomes-number.is)
+    c.in_ok-put_line.ensures
 
 pub returns-in_err-put_line : goal.returns-in_err-put_line
 returns-in_err-put_line g c =

@@ -6,7 +6,8 @@ use Rattle.evp_stones.proofs.refusal.Refusal.write_cause.Goals as goal
 pub returns-in-Job : goal.returns-in-Job
 returns-in-Job c =
     rw c.in-Job.is
-    (wrote_text c.args.cause.now c.write.new.self (λ text. text.bytes) c.write.result (job_fault_text c.in-Job.fault) c.write.ensures.writes)
+    (wrote_text c.args.cause.now c.write.new.self (λ text. text.bytes) c.write.result
+    (job_fault_text c.in-Job.fault) c.write.ensures.writes)
 
 pub returns-in-Data : goal.returns-in-Data
 returns-in-Data c =

@@ -61,6 +61,26 @@ fn lists_of_every_length(rt: HostRuntime) -> Result<(), Fail> {
     Ok(())
 }
 
+// The numbers from 1 to 37, of 4 bytes each.
+fn up_to_37(alloc: Global, big: bool) -> Result<Vec<u8>, Fail> {
+    let mut bytes = Vec::new(alloc);
+    for number in 1..38i128 {
+        bytes.extend_from_slice(&number_bytes(alloc, big, 4, number)?)?;
+    }
+    Ok(bytes)
+}
+
+#[test]
+fn a_list_in_the_fixed_part(rt: HostRuntime) -> Result<(), Fail> {
+    let alloc = rt.alloc();
+    let from = format_of(alloc, "be32 p{a integer[37] 4}")?;
+    let to = format_of(alloc, "le32 p{a integer[37] 4}")?;
+    let (found, _) = answer(alloc, &from, &to, &up_to_37(alloc, true)?, 4096)?;
+    let wanted = digits_of(alloc, &up_to_37(alloc, false)?)?;
+    assert_eq!(rt; found.as_str(), wanted.as_str());
+    Ok(())
+}
+
 // A text of so many letters in bytes: its pointer, the letters and a zero.
 fn text(alloc: Global, big: bool, letters: usize) -> Result<Vec<u8>, Fail> {
     let mut bytes = number_bytes(alloc, big, 8, 8)?;

@@ -89,6 +89,23 @@ fn walks_by_listed_turns(rt: HostRuntime) -> Result<(), Fail> {
     Ok(())
 }
 
+// All turns that the one record takes.
+const NINE_TURNS: &[u8] = b"1\n0\n1\n1\n0\n1\n1\n0\n1\n";
+
+const REPORT: &str = "round 0\na>0 passed 1 dropped 0 refused 0 held 0\n#0 {x=7}\n";
+
+#[test]
+fn walks_to_the_end_by_listed_turns(rt: HostRuntime) -> Result<(), Fail> {
+    let held = Held {
+        job: JOB,
+        file: ONE_SEVEN,
+        order: NINE_TURNS,
+        failing: &[],
+    };
+    assert!(rt; gives(&rt, rt.alloc(), &WALK, &held, 0, REPORT)?);
+    Ok(())
+}
+
 // The identifiers are by sha256sum.
 const SHOWN: &str = "format 0 little pointer 4 \
     aa81926612fc87fb2015aafdb810f4896e0f71fb96135b69e500544452d273f2\n\

@@ -1,23 +1,21 @@
 -- Four turns for each entry are the most.
-use Rattle.std.proofs.Common.{◌≡◌, ℕ, suc, ◌*◌, ◌≤◌, List, [], ◌∷◌, length, Option, Some, refl, ap, ◌∙◌, arith}
-use Rattle.std.proofs.lemmas.List.{length-map}
+use Rattle.std.proofs.Common.{◌≡◌, ℕ, suc, ◌*◌, ◌≤◌, List, [], ◌∷◌, length, Some, refl, arith}
 use Rattle.std.proofs.lemmas.List.Sums.{sum_by-cons}
 use Rattle.std.specs.List.{slice_get, sum, sum_by}
 use Rattle.evp_graph.specs.declared.route.Route.{Route}
-use Rattle.evp_stone.specs.Accounts.{flow_of}
-use Rattle.evp_stone.specs.Entries.{flow, flow_at, facts}
-use Rattle.evp_stone.specs.Flow.{Part}
 use Rattle.evp_stone.specs.Job.{IsJob}
 use Rattle.evp_stone.specs.JobShape.{JobShape}
 use Rattle.evp_stone.specs.Port.{LeadsTo}
 use Rattle.evp_stone.specs.Route.{last_stone}
 use Rattle.evp_stone.proofs.Bounds.{submitted_flow}
+use Rattle.evp_stone.proofs.Elements.{there_below}
 use Rattle.evp_stone.proofs.JobFacts.{ends_at}
+use Rattle.evp_stone.proofs.LastStones.{leads_below}
+use Rattle.evp_stone.proofs.WholeFlow.{flow_long}
 use Rattle.evp_core.specs.Lists.{ListsShape, HasLists}
 use Rattle.evp_core.specs.Progress.{counted_turns}
 use Rattle.evp_core.specs.Turns.{entries_on, entries_in}
-use Rattle.evp_core.proofs.Edges.{leads_below}
-use Rattle.evp_core.proofs.ListsKeep.{there_below, taken_there, given_there}
+use Rattle.evp_core.proofs.ListsKeep.{taken_there, given_there}
 
 sum_below : {X : Type 0} (f : X → ℕ) (xs : List ℕ) (ys : List X) → length xs ≡ length ys
     → ((k x : ℕ) (y : X) → slice_get xs k ≡ Some x → slice_get ys k ≡ Some y → x ≤ f y) → sum xs ≤ sum_by f ys
@@ -44,9 +42,7 @@ module _ (lists : ListsShape) (has : HasLists lists) (is : IsJob lists.job) wher
       let list = there_below lists.lists (last_stone route) (omega arith) in
       let carries = (has.each (last_stone route) list.0 list.1).carries number leads taken given takes gives in
       let short = submitted_flow job is route (ends_at job is number route at) in
-      let long : length (flow job number) ≡ length (flow_of job route) =
-      ap (λ (r : Option Route). length (facts job.formats (flow_at job r))) at
-      ∙ length-map (flow_of job route) (λ (part : Part). record { formats = job.formats; part = part }) in
+      let long = flow_long job number route at in
       let within = carries.within in
       let behind = carries.behind in
       (omega arith, omega arith)

@@ -1,10 +1,9 @@
--- What a turn changes: the counts of the actor's own routes, and neither its number nor its stone.
-use Rattle.std.proofs.Common.{◌≡◌, ◌⊎◌, ℕ, ◌+◌, ◌<◌, length, Bool, true, false, List, [], ◌∷◌, Option, Some, None, refl, sym, ap, subst, ◌∙◌, inl, inr, ⊎_elim}
+-- What a turn changes: the counts of the actor's own routes, and not from which list it takes.
+use Rattle.std.proofs.Common.{◌≡◌, ◌⊎◌, ℕ, List, [], ◌∷◌, Option, Some, None, refl, sym, ap, subst, ◌∙◌, inl, inr, ⊎_elim}
 use Rattle.std.proofs.lemmas.Bool.Decides.{eqb_tells}
 use Rattle.std.specs.List.{slice_get}
 use Rattle.evp_graph.specs.declared.route.Route.{Route}
 use Rattle.evp_stone.specs.declared.entry.Entry.{Entry}
-use Rattle.evp_stone.specs.declared.entry.Entry.TheVariants.{Item, Mark}
 use Rattle.evp_stone.specs.declared.turn.Turn.{Turn}
 use Rattle.evp_stone.specs.declared.turn.Turn.TheVariants.{Moved, Idle, Blocked, Closed, Memory}
 use Rattle.evp_stone.specs.Actor.{Role, feeds, works, HasRole}
@@ -12,13 +11,13 @@ use Rattle.evp_stone.specs.Entries.{route_of}
 use Rattle.evp_stone.specs.Feeding.{SourceWork, HasFed, to_come}
 use Rattle.evp_stone.specs.Flow.{Part}
 use Rattle.evp_stone.specs.JobShape.{JobShape}
-use Rattle.evp_stone.specs.Opening.{IsNumbered, GivesOn}
+use Rattle.evp_stone.specs.Opening.{GivesOn}
 use Rattle.evp_stone.specs.Port.{Counting, OneMore}
-use Rattle.evp_stone.specs.State.{Received, RouteWork, StoneWork, HasState, GoesOut}
+use Rattle.evp_stone.specs.State.{StoneWork, HasState, GoesOut}
 use Rattle.evp_stone.specs.Turned.{Counted, RoleGoes, StoneGoes, FirstGoes, HandGoes, NextComes, SourceGoes, PartGoes, NoneGoes}
-use Rattle.evp_stone.specs.Turning.{HandTurn, Deals}
+use Rattle.evp_stone.proofs.Apart.{its_last}
+use Rattle.evp_stone.proofs.SameActor.{IsSame}
 use Rattle.evp_core.specs.WorldShape.{own_of}
-use Rattle.evp_core.proofs.Frame.{last_at}
 
 -- the actor gives on the route of this number
 pub record GivesAt (job : JobShape) (role : Role) (number : ℕ) : Type 0 where
@@ -40,7 +39,7 @@ waits_on job taken given work unended entry others state waits =
         number = out.work.route;
         route = was.route;
         there = was.there;
-        last = last_at job work.stone work.routes out.place out.work was.route state.numbers out.here was.there;
+        last = its_last job work.stone work.routes out.place out.work was.route state.numbers out.here was.there;
         position = out.position;
         goes_on = sent.goes_on;
       };
@@ -125,93 +124,9 @@ module _ (job : JobShape) (before after : Counted) (number : ℕ) where
       stone_gives old new unended old.waiting old.hand turn
       (λ entry others waits. waits_on job before.taken before.given old unended entry others has.0 waits) goes
 
--- the stone stays what it is
-deals_stone : (job : JobShape) (old new : StoneWork) (place : ℕ) (here : RouteWork) (frozen : Bool) (kept : List Received) (entry : Entry)
-    → Deals job old new place here frozen kept entry → new.stone ≡ old.stone
-deals_stone job old new place here true kept (Item route position index owned) deals = ap (λ (w : StoneWork). w.stone) deals
-deals_stone job old new place here true kept (Mark route position round) deals = ap (λ (w : StoneWork). w.stone) deals.is
-deals_stone job old new place here false (received ∷ kept) entry deals = ap (λ (w : StoneWork). w.stone) deals.is
-deals_stone job old new place here false [] (Item route position index owned) deals = ap (λ (w : StoneWork). w.stone) deals.is
-deals_stone job old new place here false [] (Mark route position round) deals = ap (λ (w : StoneWork). w.stone) deals.is
-
--- an actor stays the one that it is
-pub record IsSameActor (old new : Role) : Type 0 where
-  pub own : own_of new ≡ own_of old
-  pub numbered : (job : JobShape) (number : ℕ) → IsNumbered job number old → IsNumbered job number new
-
-same_source : (old new : SourceWork) → new.source ≡ old.source → IsSameActor (feeds old) (feeds new)
-same_source old new same = record {
-  own = refl;
-  numbered = λ job number is. (is.0, same ∙ is.1);
-}
-
-same_stone : (old new : StoneWork) (unended still : ℕ) → new.stone ≡ old.stone → IsSameActor (works old unended) (works new still)
-same_stone old new unended still same = record {
-  own = ap Some same;
-  numbered = λ job number is. (
-    subst (λ (n : ℕ). n < length job.stones) (sym same) is.0,
-    is.1 ∙ ap (λ (n : ℕ). length job.sources + n) (sym same),
-  );
-}
-
-abbrev source_of : SourceWork → ℕ
-source_of work = work.source
-
-abbrev stone_of : StoneWork → ℕ
-stone_of work = work.stone
-
-module _ (job : JobShape) (before after : Counted) where
-  part_source : (old new : SourceWork) (part : Part) (turn : Turn) → PartGoes job before after old new part turn → new.source ≡ old.source
-  part_source old new part Moved goes = goes.1.source
-  part_source old new part Idle goes = absurd goes
-  part_source old new part (Blocked target) goes = ap source_of goes.1
-  part_source old new part Closed goes = absurd goes
-  part_source old new part Memory goes = ap source_of goes.1
-
-  none_source : (old new : SourceWork) (turn : Turn) → NoneGoes job before after old new turn → new.source ≡ old.source
-  none_source old new Moved goes = absurd goes
-  none_source old new Idle goes = absurd goes
-  none_source old new (Blocked target) goes = absurd goes
-  none_source old new Closed goes = ap source_of goes.1
-  none_source old new Memory goes = absurd goes
-
-  goes_source : (old new : SourceWork) (parts : List Part) (turn : Turn) → SourceGoes job before after old new parts turn
-      → new.source ≡ old.source
-  goes_source old new [] turn goes = none_source old new turn goes
-  goes_source old new (part ∷ parts) turn goes = part_source old new part turn goes
-
-  first_stone : (old new : StoneWork) (entry : Entry) (others : List Entry) (turn : Turn)
-      → FirstGoes job before after old new entry others turn → new.stone ≡ old.stone
-  first_stone old new entry others Moved goes = ap stone_of goes.1
-  first_stone old new entry others Idle goes = absurd goes
-  first_stone old new entry others (Blocked target) goes = ap stone_of goes.1
-  first_stone old new entry others Closed goes = absurd goes
-  first_stone old new entry others Memory goes = ap stone_of goes.1
-
-  hand_stone : (old new : StoneWork) (entry : Entry) (turn : Turn) → HandGoes job before after old new entry turn → new.stone ≡ old.stone
-  hand_stone old new entry Moved goes =
-      let h : HandTurn job old new entry = goes.1 in deals_stone job old new h.place h.here _ h.here.kept entry h.deals
-  hand_stone old new entry Idle goes = absurd goes
-  hand_stone old new entry (Blocked target) goes = absurd goes
-  hand_stone old new entry Closed goes = absurd goes
-  hand_stone old new entry Memory goes = ap stone_of goes.1
-
-  next_stone : (old new : StoneWork) (turn : Turn) → NextComes job before after old new turn → new.stone ≡ old.stone
-  next_stone old new Moved goes = ap stone_of goes.1.2
-  next_stone old new Idle goes = ap stone_of goes.3
-  next_stone old new (Blocked target) goes = absurd goes
-  next_stone old new Closed goes = ap stone_of goes.2
-  next_stone old new Memory goes = absurd goes
-
-  goes_stone : (old new : StoneWork) (waiting : List Entry) (hand : Option Entry) (turn : Turn)
-      → StoneGoes job before after old new waiting hand turn → new.stone ≡ old.stone
-  goes_stone old new (entry ∷ others) hand turn goes = first_stone old new entry others turn goes
-  goes_stone old new [] (Some entry) turn goes = hand_stone old new entry turn goes
-  goes_stone old new [] None turn goes = next_stone old new turn goes
-
-  pub same_actor : (old new : Role) (turn : Turn) → RoleGoes job before after old new turn → IsSameActor old new
-  same_actor (feeds old) (feeds new) turn goes = same_source old new (goes_source old new (to_come job old) turn goes)
-  same_actor (feeds old) (works new unended) turn goes = absurd goes
-  same_actor (works old unended) (feeds new) turn goes = absurd goes
-  same_actor (works old unended) (works new still) turn goes =
-      same_stone old new unended still (goes_stone old new old.waiting old.hand turn goes)
+-- an actor takes from the list from which it took
+pub own_stays : (old new : Role) → IsSame old new → own_of new ≡ own_of old
+own_stays (feeds old) (feeds new) same = refl
+own_stays (feeds old) (works new unended) same = absurd same
+own_stays (works old unended) (feeds new) same = absurd same
+own_stays (works old unended) (works new still) same = ap Some same

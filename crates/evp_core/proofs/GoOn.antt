@@ -3,38 +3,37 @@ use Rattle.std.proofs.Common.{◌≡◌, ◌⊎◌, ℕ, zero, suc, ◌+◌, ◌
 use Rattle.std.proofs.Common.{refl, sym, ap, subst, ◌∙◌, arith, inl, inr, ⊎_elim}
 use Rattle.std.proofs.lemmas.Bool.Decides.{eqb_tells}
 use Rattle.std.proofs.lemmas.List.{length-map}
-use Rattle.std.proofs.lemmas.Option.{same_Some}
+use Rattle.std.proofs.lemmas.Option.{same_Some, slice_get_within}
 use Rattle.std.specs.List.{slice_get}
 use Rattle.evp_graph.specs.declared.route.Route.{Route}
-use Rattle.evp_graph.specs.Routes.{Visits, Steps}
+use Rattle.evp_graph.specs.Routes.{Steps}
 use Rattle.evp_graph.specs.Shape.{targets_of}
 use Rattle.evp_graph.proofs.Paths.{target_below, length-steps}
 use Rattle.evp_stone.specs.declared.entry.Entry.{Entry}
-use Rattle.evp_stone.specs.declared.source.Source.{Source}
+use Rattle.evp_stone.specs.declared.stone.Stone.{Stone}
 use Rattle.evp_stone.specs.Actor.{Role, feeds, works, ActorShape, HasRole}
+use Rattle.evp_stone.specs.Closed.{IsClosed}
 use Rattle.evp_stone.specs.Entries.{route_of}
 use Rattle.evp_stone.specs.Feeding.{SourceWork}
 use Rattle.evp_stone.specs.Job.{IsJob}
 use Rattle.evp_stone.specs.JobShape.{JobShape, graph_of}
-use Rattle.evp_stone.specs.Opening.{IsNumbered}
+use Rattle.evp_stone.specs.Opening.{IsNumbered, GoesOnFrom}
 use Rattle.evp_stone.specs.Port.{LeadsTo}
 use Rattle.evp_stone.specs.Route.{last_stone}
 use Rattle.evp_stone.specs.State.{StoneWork}
+use Rattle.evp_stone.proofs.Edges.{first_or_longer, goes_edge, source_below}
+use Rattle.evp_stone.proofs.Elements.{there_below}
+use Rattle.evp_stone.proofs.LastStones.{last_stone_below}
 use Rattle.evp_core.specs.Answers.{StandsIdle}
 use Rattle.evp_core.specs.Lists.{ListsShape, IsFull, taken_on, given_on}
-use Rattle.evp_core.specs.Moving.{IsClosed, AreClosed, CanGoOn}
+use Rattle.evp_core.specs.Moving.{AreClosed, CanGoOn}
 use Rattle.evp_core.specs.WorldShape.{WorldShape, HasRules, own_of}
 use Rattle.evp_core.proofs.Earlier.{Awaits, awaits, closed_none}
-use Rattle.evp_core.proofs.Edges.{goes_edge, shorter, Shorter, route_at, leads_below, same_stones}
 use Rattle.evp_core.proofs.Given.{waits_on}
-use Rattle.evp_core.proofs.Givers.{IsShort, source_unended, stone_unended}
-use Rattle.evp_core.proofs.ListsKeep.{there_below, below_there, leads_once}
+use Rattle.evp_core.proofs.Givers.{IsShort, unclosed}
+use Rattle.evp_core.proofs.ListsKeep.{leads_once}
 use Rattle.evp_core.proofs.MovesOn.{moves_on}
 use Rattle.evp_core.proofs.Stages.{Stands, StandsBlocked, CanMove, stands}
-
-empty_or : (xs : List ℕ) → (xs ≡ []) ⊎ (0 < length xs)
-empty_or [] = inl refl
-empty_or (x ∷ xs) = inr (omega arith)
 
 first_entry : (entries : List Entry) → 0 < length entries → (entry : Entry) × (others : List Entry) × (entries ≡ entry ∷ others)
 first_entry [] some = absurd (omega arith)
@@ -52,6 +51,9 @@ module _ (world : WorldShape) (rules : HasRules world) (is : IsJob world.lists.j
 
   abbrev targets : List (List ℕ)
   targets = (graph_of job).targets
+
+  same_stones : length targets ≡ length job.stones
+  same_stones = length-map job.stones (λ (s : Stone). s.targets)
 
   -- an actor that can move
   abbrev pub Mover : Type 0
@@ -88,7 +90,7 @@ module _ (world : WorldShape) (rules : HasRules world) (is : IsJob world.lists.j
   stone_actor : (stone : ℕ) → stone < length targets → StoneActor stone
   stone_actor stone below =
       let count = rules.count in
-      let long = same_stones job is in
+      let long = same_stones in
       let at = there_below world.actors (length job.sources + stone) (omega arith) in
       stone_role stone at.0 at.1 at.0.role refl (rules.numbered (length job.sources + stone) at.0 at.1)
 
@@ -170,9 +172,9 @@ module _ (world : WorldShape) (rules : HasRules world) (is : IsJob world.lists.j
   -- where a list is full, some actor can move
   pub full_moves : (stone : ℕ) → IsFull lists stone → Mover
   full_moves stone full =
-      let within = below_there lists.lists stone full.0 full.1 in
+      let within = slice_get_within lists.lists stone full.0 full.1 in
       let long = rules.lists.stones in
-      let same = same_stones job is in
+      let same = same_stones in
       let below : stone < length targets = omega arith in
       from_full (length targets) stone below
       (λ positions stones steps. length-steps targets is.sound.targets is.sound.acyclic stone positions stones below steps) full
@@ -181,34 +183,28 @@ module _ (world : WorldShape) (rules : HasRules world) (is : IsJob world.lists.j
       → IsShort job (given_on lists) waits.number waits.route
   short_of work state hand waits = record { there = waits.there; count = waits.count; gives = waits.gives; below = waits.below }
 
-  source_below : (source : ℕ) (positions stones : List ℕ) → Visits (graph_of job) source positions stones → source < length job.sources
-  source_below source positions [] v = absurd v
-  source_below source positions (first ∷ others) v =
-      let within = below_there (graph_of job).sources source first v.0 in
-      let same = length-map job.sources (λ (s : Source). s.stone) in omega arith
-
   -- the source of a route that isn't whole moves, or some actor does where it is blocked
   source_step : (number : ℕ) (route : Route) → IsShort job (given_on lists) number route → (a : SourceActor route.source)
       → route.positions ≡ [] → Stands world rules is (feeds a.work) → Mover
   source_step number route short a none (inl closed) =
       let fed = has_role route.source a.actor (feeds a.work) a.there a.role in
-      absurd (source_unended job is (given_on lists) number route short a.work fed (sym a.is_source) none closed)
+      absurd (unclosed job is (taken_on lists None) (given_on lists) number route short (feeds a.work) fed (sym a.is_source, none) closed)
   source_step number route short a none (inr (inl idle)) = absurd idle
   source_step number route short a none (inr (inr (inl blocked))) = full_moves blocked.0 blocked.2
   source_step number route short a none (inr (inr (inr can))) = mover route.source a.actor (feeds a.work) a.there a.role can
 
   -- so does the stone before, unless it is idle too
-  stone_step : (number : ℕ) (route : Route) → IsShort job (given_on lists) number route → (before : Shorter job is route)
-      → (a : StoneActor (last_stone before.route)) → (StandsIdle lists (works a.work a.unended) → Mover)
+  stone_step : (number : ℕ) (route : Route) → IsShort job (given_on lists) number route → (stone : ℕ) → GoesOnFrom job stone route
+      → (a : StoneActor stone) → (StandsIdle lists (works a.work a.unended) → Mover)
       → Stands world rules is (works a.work a.unended) → Mover
-  stone_step number route short before a onward (inl closed) =
-      let state = (has_role (length job.sources + last_stone before.route) a.actor (works a.work a.unended) a.there a.role).0 in
-      absurd (stone_unended job is (given_on lists) number route short a.work (taken_on lists (Some a.work.stone)) state before
-      (sym a.is_stone) closed.0 closed.2)
-  stone_step number route short before a onward (inr (inl idle)) = onward idle
-  stone_step number route short before a onward (inr (inr (inl blocked))) = full_moves blocked.0 blocked.2
-  stone_step number route short before a onward (inr (inr (inr can))) =
-      mover (length job.sources + last_stone before.route) a.actor (works a.work a.unended) a.there a.role can
+  stone_step number route short stone from a onward (inl closed) =
+      let has = has_role (length job.sources + stone) a.actor (works a.work a.unended) a.there a.role in
+      absurd (unclosed job is (taken_on lists (Some a.work.stone)) (given_on lists) number route short (works a.work a.unended) has
+      (subst (λ (s : ℕ). GoesOnFrom job s route) (sym a.is_stone) from) closed)
+  stone_step number route short stone from a onward (inr (inl idle)) = onward idle
+  stone_step number route short stone from a onward (inr (inr (inl blocked))) = full_moves blocked.0 blocked.2
+  stone_step number route short stone from a onward (inr (inr (inr can))) =
+      mover (length job.sources + stone) a.actor (works a.work a.unended) a.there a.role can
 
   from_idle : (fuel stone : ℕ) → stone < length targets → (positions stones : List ℕ) → Steps targets stone positions stones
       → length targets ≤ fuel + length stones → (a : StoneActor stone) → StandsIdle lists (works a.work a.unended) → Mover
@@ -220,33 +216,31 @@ module _ (world : WorldShape) (rules : HasRules world) (is : IsJob world.lists.j
       let short = short_of a.work state idle.0.hand waits in
       ⊎_elim
       (λ none.
-      let source = source_actor waits.route.source
-      (source_below waits.route.source waits.route.positions waits.route.stones (route_at job is waits.number waits.route waits.there)) in
+      let source = source_actor waits.route.source (source_below job is waits.number waits.route waits.there) in
       source_step waits.number waits.route short source none
       (stands_so waits.route.source source.actor (feeds source.work) source.there source.role))
-      (λ some.
-      let before = shorter job is waits.number waits.route waits.there some in
-      let leads : LeadsTo job before.number (last_stone before.route) =
-      record { route = before.route; there = before.there; last = refl } in
-      let within = leads_below job is before.number (last_stone before.route) leads in
-      let same = same_stones job is in
-      let under : last_stone before.route < length targets = omega arith in
-      let earlier = stone_actor (last_stone before.route) under in
-      let edge : slice_get (targets_of targets (last_stone before.route)) before.position ≡ Some stone =
-      goes_edge job is waits.number before.number before.route waits.route before.position before.there waits.there before.goes_on
+      (λ before.
+      let from = before.1 in
+      let within = last_stone_below job is from.number from.route from.there in
+      let last = from.last in
+      let same = same_stones in
+      let under : before.0 < length targets = omega arith in
+      let earlier = stone_actor before.0 under in
+      let edge : slice_get (targets_of targets before.0) from.position ≡ Some stone =
+      ap (λ (s : ℕ). slice_get (targets_of targets s) from.position) (sym last)
+      ∙ goes_edge job is waits.number from.number from.route waits.route from.position from.there waits.there from.goes_on
       ∙ ap Some (waits.last ∙ a.is_stone) in
-      stone_step waits.number waits.route short before earlier
-      (λ more. from_idle fuel (last_stone before.route) under (before.position ∷ positions) (stone ∷ stones) (edge, steps)
-      (omega arith) earlier more)
-      (stands_so (length job.sources + last_stone before.route) earlier.actor (works earlier.work earlier.unended) earlier.there earlier.role))
-      (empty_or waits.route.positions)
+      stone_step waits.number waits.route short before.0 from earlier
+      (λ more. from_idle fuel before.0 under (from.position ∷ positions) (stone ∷ stones) (edge, steps) (omega arith) earlier more)
+      (stands_so (length job.sources + before.0) earlier.actor (works earlier.work earlier.unended) earlier.there earlier.role))
+      (first_or_longer job is waits.number waits.route waits.there)
 
   -- where a stone is idle, some actor can move
   idle_moves : (number : ℕ) (actor : ActorShape) → slice_get world.actors number ≡ Some actor → (role : Role) → actor.role ≡ role
       → IsNumbered job number role → StandsIdle lists role → Mover
   idle_moves number actor there (feeds work) same numbered idle = absurd idle
   idle_moves number actor there (works work unended) same numbered idle =
-      let stones = same_stones job is in
+      let stones = same_stones in
       let below : work.stone < length targets = let n = numbered.0 in omega arith in
       let a : StoneActor work.stone = record {
         actor = actor;
@@ -283,7 +277,7 @@ module _ (world : WorldShape) (rules : HasRules world) (is : IsJob world.lists.j
   -- all actors are closed, or one can move
   pub closed_or_moves : AreClosed world ⊎ Mover
   closed_or_moves =
-      ⊎_elim (λ closed. inl (λ number actor at. closed number actor (below_there world.actors number actor at) at)) inr
+      ⊎_elim (λ closed. inl (λ number actor at. closed number actor (slice_get_within world.actors number actor at) at)) inr
       (closed_or (length world.actors) (omega arith))
 
   -- all are closed, or one moves in its next turn

@@ -16,12 +16,13 @@ use Rattle.evp_stone.specs.Opening.{IsNumbered, GivesOn}
 use Rattle.evp_stone.specs.Port.{LeadsTo}
 use Rattle.evp_stone.specs.Route.{last_stone}
 use Rattle.evp_stone.proofs.Change.{set_here, set_elsewhere}
-use Rattle.evp_stone.proofs.TakeStep.{AreSame}
+use Rattle.evp_stone.proofs.Recounted.{AreSame, StayFor, acted_as}
+use Rattle.evp_stone.proofs.SameActor.{IsSame, role_stays, numbered_still}
 use Rattle.evp_core.specs.Lists.{ListsShape, HasLists, ListsGo, OneLeft, taken_on, given_on, where_ends, left_by}
 use Rattle.evp_core.specs.WorldShape.{WorldShape, HasRules, own_of}
 use Rattle.evp_core.specs.WorldTurned.{WorldTurned, counts_before, counts_behind, turned_by}
-use Rattle.evp_core.proofs.Frame.{StayFor, acted_as, gives_once}
-use Rattle.evp_core.proofs.Given.{role_gives, same_actor}
+use Rattle.evp_core.proofs.Given.{role_gives, own_stays}
+use Rattle.evp_core.proofs.GivesOnce.{gives_once}
 use Rattle.evp_core.proofs.ListsKeep.{is_first}
 
 -- the job stays
@@ -102,9 +103,11 @@ module _ (old : WorldShape) (rules : HasRules old) (new : WorldShape) (number : 
       (others_taken (own_of turned.was.role) (own_of actor.role) old.lists turned.after rules.lists turned.lists others)
       old.cells actor (still_given other actor at apart) (rules.acted other actor at)
 
+  same : IsSame turned.was.role turned.now.role
+  same = role_stays job _ _ turned.was.role turned.now.role turn turned.turned.role
+
   still_numbered : IsNumbered job number turned.now.role
-  still_numbered = (same_actor job _ _ turned.was.role turned.now.role turn turned.turned.role).numbered job number
-      (rules.numbered number turned.was turned.there)
+  still_numbered = numbered_still job number turned.was.role turned.now.role same (rules.numbered number turned.was turned.there)
 
   abbrev after : WorldShape
   after = turned_by old number turned.now turned.after turn
@@ -138,6 +141,6 @@ module _ (old : WorldShape) (rules : HasRules old) (new : WorldShape) (number : 
         (which other actor at
         (λ n a. HasActed job old.cells (taken_on turned.after (own_of a.role)) (given_on turned.after) a)
         (subst (λ (o : Option ℕ). HasActed job old.cells (taken_on turned.after o) (given_on turned.after) turned.now)
-        (sym (same_actor job _ _ turned.was.role turned.now.role turn turned.turned.role).own) acted)
+        (sym (own_stays turned.was.role turned.now.role same)) acted)
         (λ was apart. still_acted other actor was apart));
   })

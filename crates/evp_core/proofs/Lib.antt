@@ -2,14 +2,13 @@ pub mod Accounting
 pub mod Behind
 pub mod Bounded
 pub mod Earlier
-pub mod Edges
 pub mod Elements
 pub mod Entering
 mod Examples
 pub mod Finish
-pub mod Frame
 pub mod Given
 pub mod Givers
+pub mod GivesOnce
 pub mod GoOn
 pub mod HeldOn
 pub mod Keeps
@@ -27,4 +26,3 @@ pub mod Running
 pub mod Stages
 pub mod Telling
 pub mod Weaker
-pub mod Whole

@@ -1,9 +1,9 @@
 -- An entry that leaves a stone's list, or joins one, leaves each list by its rule.
-use Rattle.std.proofs.Common.{◌≡◌, ◌≢◌, ℕ, zero, suc, ◌+◌, ◌<◌, List, [], ◌∷◌, ◌++◌, length, Some, set}
+use Rattle.std.proofs.Common.{◌≡◌, ◌≢◌, ℕ, ◌+◌, ◌<◌, List, [], ◌∷◌, ◌++◌, length, Some, set}
 use Rattle.std.proofs.Common.{refl, sym, ap, subst, ◌∙◌, arith, length-append, ⊎_elim}
 use Rattle.std.proofs.Math.ListN.{length-set}
 use Rattle.std.proofs.lemmas.Bool.Decides.{eqb_tells}
-use Rattle.std.proofs.lemmas.Option.{same_Some}
+use Rattle.std.proofs.lemmas.Option.{same_Some, slice_get_within}
 use Rattle.std.specs.List.{slice_get, AllByRecursion}
 use Rattle.evp_queue.specs.Flow.{Carries}
 use Rattle.evp_queue.proofs.Flows.{LeavesFirst, carries_fewer, carries_behind, carries_more, carries_still}
@@ -13,17 +13,8 @@ use Rattle.evp_stone.specs.JobShape.{JobShape}
 use Rattle.evp_stone.specs.Port.{LeadsTo, IsPlacedIn}
 use Rattle.evp_stone.specs.Route.{last_stone}
 use Rattle.evp_stone.proofs.Change.{set_here, set_elsewhere}
+use Rattle.evp_stone.proofs.Elements.{there_below}
 use Rattle.evp_core.specs.Lists.{ListsShape, KeepsRule, HasLists, IsFirst, left_by, joined_by}
-
-pub there_below : {X : Type 0} (xs : List X) (k : ℕ) → k < length xs → (x : X) × (slice_get xs k ≡ Some x)
-there_below [] k below = absurd (omega arith)
-there_below (x ∷ xs) zero below = (x, refl)
-there_below (x ∷ xs) (suc k) below = there_below xs k (omega arith)
-
-pub below_there : {X : Type 0} (xs : List X) (k : ℕ) (x : X) → slice_get xs k ≡ Some x → k < length xs
-below_there [] k x at = absurd (cc)
-below_there (y ∷ xs) zero x at = omega arith
-below_there (y ∷ xs) (suc k) x at = let b = below_there xs k x at in omega arith
 
 -- a route leads to one stone
 pub leads_once : (job : JobShape) (number stone other : ℕ) → LeadsTo job number stone → LeadsTo job number other → stone ≡ other
@@ -33,12 +24,12 @@ leads_once job number stone other one two =
 module _ (old : ListsShape) (has : HasLists old) where
   pub taken_there : (number stone : ℕ) → LeadsTo old.job number stone → (n : ℕ) × (slice_get old.taken number ≡ Some n)
   taken_there number stone leads =
-      let b = below_there old.job.routes number leads.route leads.there in
+      let b = slice_get_within old.job.routes number leads.route leads.there in
       let long = has.taken in there_below old.taken number (omega arith)
 
   pub given_there : (number stone : ℕ) → LeadsTo old.job number stone → (n : ℕ) × (slice_get old.given number ≡ Some n)
   given_there number stone leads =
-      let b = below_there old.job.routes number leads.route leads.there in
+      let b = slice_get_within old.job.routes number leads.route leads.there in
       let long = has.given in there_below old.given number (omega arith)
 
   module _ (stone : ℕ) (entry : Entry) (others : List Entry) (was : slice_get old.lists stone ≡ Some (entry ∷ others)) where

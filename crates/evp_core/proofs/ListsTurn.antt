@@ -1,31 +1,27 @@
 -- Lists in code, behind a take and behind a give.
-use Rattle.std.proofs.Common.{◌≡◌, ℕ, ◌+◌, ◌<◌, ◌≤◌, ◌^◌, List, [], ◌∷◌, ◌++◌, length, Option, Some, set, sym, ap, subst, ◌∙◌, arith}
-use Rattle.std.proofs.lemmas.List.{length-map}
-use Rattle.std.proofs.lemmas.Option.{same_Some}
+use Rattle.std.proofs.Common.{◌≡◌, ℕ, ◌+◌, ◌<◌, ◌≤◌, ◌^◌, List, [], ◌∷◌, ◌++◌, length, Some, set, sym, ap, subst, ◌∙◌, arith}
+use Rattle.std.proofs.lemmas.Option.{same_Some, slice_get_within}
 use Rattle.std.specs.List.{slice_get, AllByRecursion}
-use Rattle.evp_graph.specs.declared.route.Route.{Route}
 use Rattle.evp_stone.specs.declared.entry.Entry.{Entry}
-use Rattle.evp_stone.specs.Accounts.{flow_of}
-use Rattle.evp_stone.specs.Entries.{flow, flow_at, facts, route_of, position_of}
-use Rattle.evp_stone.specs.Flow.{Part}
+use Rattle.evp_stone.specs.Entries.{flow, route_of, position_of}
 use Rattle.evp_stone.specs.Job.{IsJob}
 use Rattle.evp_stone.specs.JobShape.{JobShape}
 use Rattle.evp_stone.specs.Port.{LeadsTo, IsPlacedIn}
 use Rattle.evp_stone.proofs.Bounds.{short_flow}
+use Rattle.evp_stone.proofs.Elements.{there_below}
 use Rattle.evp_stone.proofs.JobFacts.{ends_at}
+use Rattle.evp_stone.proofs.LastStones.{leads_below}
+use Rattle.evp_stone.proofs.WholeFlow.{flow_long}
 use Rattle.evp_core.specs.Lists.{ListsShape, HasLists, HasRoom, IsFirst, MayJoin, IsPopped, IsPushed, OneLeft, OneJoined, IsFull, left_by, joined_by}
-use Rattle.evp_core.proofs.Edges.{leads_below}
-use Rattle.evp_core.proofs.ListsKeep.{there_below, below_there, left_keeps, joined_keeps}
+use Rattle.evp_core.proofs.ListsKeep.{left_keeps, joined_keeps}
 
 -- a place in a flow fits its type
 placed_fits : (job : JobShape) → IsJob job → (entry : Entry) (stone : ℕ) → LeadsTo job (route_of entry) stone → IsPlacedIn job entry
     → position_of entry + 1 < 2 ^ 32
 placed_fits job is entry stone leads placed =
-    let within = below_there (flow job (route_of entry)) (position_of entry) placed.0 placed.1 in
+    let within = slice_get_within (flow job (route_of entry)) (position_of entry) placed.0 placed.1 in
     let short = short_flow job is leads.route (ends_at job is (route_of entry) leads.route leads.there) in
-    let long : length (flow job (route_of entry)) ≡ length (flow_of job leads.route) =
-    ap (λ (r : Option Route). length (facts job.formats (flow_at job r))) leads.there
-    ∙ length-map (flow_of job leads.route) (λ (part : Part). record { formats = job.formats; part = part }) in
+    let long = flow_long job (route_of entry) leads.route leads.there in
     omega arith
 
 module _ (old : ListsShape) (stone : ℕ) (entry : Entry) where

@@ -3,7 +3,7 @@ use Rattle.std.proofs.Common.{◌≡◌, ℕ, zero, suc, ◌+◌, ◌<◌, Bool,
 use Rattle.std.proofs.Common.{length-append}
 use Rattle.std.proofs.lemmas.Bool.Decides.{eqb_tells}
 use Rattle.std.proofs.lemmas.List.Sums.{sum_by-cons}
-use Rattle.std.proofs.lemmas.Option.{slice_get_within, get_or_from_slice_get, slice_get-get_or}
+use Rattle.std.proofs.lemmas.Option.{slice_get_within}
 use Rattle.std.specs.Prelude.{if◌then◌else◌, replicate}
 use Rattle.std.specs.List.{slice_get, sum_by, Contains, AllByRecursion}
 use Rattle.evp_graph.specs.declared.route.Route.{Route}
@@ -12,18 +12,16 @@ use Rattle.evp_stone.specs.Actor.{Role, feeds, works, ActorShape}
 use Rattle.evp_stone.specs.Job.{IsJob}
 use Rattle.evp_stone.specs.JobShape.{JobShape}
 use Rattle.evp_stone.specs.Opening.{IsOpening, IsUntouched, IsFresh}
-use Rattle.evp_stone.specs.Port.{LeadsTo}
 use Rattle.evp_stone.specs.Route.{last_stone}
 use Rattle.evp_stone.specs.State.{RouteWork, Received}
 use Rattle.evp_stone.specs.Tallied.{routes_at}
-use Rattle.evp_stone.proofs.Apart.{end_at}
+use Rattle.evp_stone.proofs.Elements.{snoc_at}
+use Rattle.evp_stone.proofs.Listed.{listed, leads_there}
 use Rattle.evp_core.specs.Held.{IsHeld, OpensAs, AreOpening, world_of}
 use Rattle.evp_core.specs.Lists.{ListsShape, HasLists, AreEmpty, taken_on, given_on, where_ends}
 use Rattle.evp_core.specs.Progress.{due_in_hand, due_of, due_turns}
 use Rattle.evp_core.specs.WorldShape.{WorldShape, HasRules, IsOpeningWorld, own_of}
-use Rattle.evp_core.proofs.Earlier.{taken_is, listed_end}
-use Rattle.evp_core.proofs.ListsKeep.{below_there}
-use Rattle.evp_core.proofs.Elements.{snoc_at}
+use Rattle.evp_core.proofs.Earlier.{taken_is}
 
 zero_there : (n k : ℕ) → k < n → slice_get {X = ℕ} (replicate n 0) k ≡ Some 0
 zero_there zero k below = absurd (omega arith)
@@ -36,30 +34,22 @@ module _ (lists : ListsShape) (empty : AreEmpty lists) where
 
   taken_zero : (number : ℕ) (route : Route) → slice_get job.routes number ≡ Some route → slice_get lists.taken number ≡ Some 0
   taken_zero number route at =
-      ap (λ (l : List ℕ). slice_get l number) empty.taken ∙ zero_there (length job.routes) number (below_there job.routes number route at)
+      ap (λ (l : List ℕ). slice_get l number) empty.taken ∙ zero_there (length job.routes) number (slice_get_within job.routes number route at)
 
   given_zero : (number : ℕ) (route : Route) → slice_get job.routes number ≡ Some route → slice_get lists.given number ≡ Some 0
   given_zero number route at =
-      ap (λ (l : List ℕ). slice_get l number) empty.given ∙ zero_there (length job.routes) number (below_there job.routes number route at)
+      ap (λ (l : List ℕ). slice_get l number) empty.given ∙ zero_there (length job.routes) number (slice_get_within job.routes number route at)
 
   takes_zero : (stone number : ℕ) → Contains (routes_at job stone) number → taken_on lists (Some stone) number ≡ Some 0
   takes_zero stone number there =
-      let at = slice_get-get_or (routes_at job stone) there.0 number there.1 ∙ ap Some there.2 in
-      let e = end_at stone 0 job.routes there.0 number at in
-      let is : e.place ≡ number = let i = e.is in omega arith in
-      let route_at : slice_get job.routes number ≡ Some e.route = ap (slice_get job.routes) (sym is) ∙ e.there in
-      let leads : LeadsTo job number stone = record { route = e.route; there = route_at; last = e.last } in
-      taken_is lists stone number 0 leads (taken_zero number e.route route_at)
+      let leads = leads_there job stone number there in
+      taken_is lists stone number 0 leads (taken_zero number leads.route leads.there)
 
   takes_only : (stone number count : ℕ) (route : Option Route) → slice_get job.routes number ≡ route
       → where_ends stone route (slice_get lists.taken number) ≡ Some count → Contains (routes_at job stone) number
   takes_only stone number count None at takes = absurd (cc)
   takes_only stone number count (Some route) at takes =
-      ⊎_elim (λ e.
-      let there = listed_end stone 0 job.routes number route at e.1 in
-      let same : 0 + number ≡ number = omega arith in
-      let found : slice_get (routes_at job stone) there.0 ≡ Some number = there.1 ∙ ap Some same in
-      (there.0, slice_get_within (routes_at job stone) there.0 number found, get_or_from_slice_get (routes_at job stone) there.0 number number found))
+      ⊎_elim (λ e. listed job stone number (record { route = route; there = at; last = e.1 }))
       (λ e. absurd (none_some (sym (ap (λ (b : Bool). if b then slice_get lists.taken number else None) e.0) ∙ takes)))
       (eqb_tells (last_stone route) stone)
     where
@@ -136,7 +126,7 @@ opens_more job cells bound actors actor are opens = record {
   each = λ number other at. ⊎_elim (λ there. are.each number other there)
       (λ here. subst (λ (a : ActorShape). OpensAs job cells number a) here.1
       (subst (λ (n : ℕ). OpensAs job cells n actor) (sym (here.0 ∙ are.count)) opens))
-      (snoc_at actors actor number other at);
+      (snoc_at actors actor other number at);
 }
 
 -- a world that was made of these

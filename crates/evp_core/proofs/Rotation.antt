@@ -2,7 +2,7 @@
 use Rattle.std.proofs.Common.{◌^◌, ◌≡◌, ◌≢◌, ℕ, ◌+◌, ◌<◌, ◌≤◌, Bool, true, false, length, Some, set, refl, sym, ap, subst, ◌∙◌, arith, ⊎_elim}
 use Rattle.std.proofs.Math.ListN.{length-set}
 use Rattle.std.proofs.lemmas.Bool.Decides.{eqb_tells}
-use Rattle.std.proofs.lemmas.Option.{same_Some}
+use Rattle.std.proofs.lemmas.Option.{same_Some, slice_get_within}
 use Rattle.std.specs.List.{slice_get, range_with_len}
 use Rattle.evp_stone.specs.declared.turn.Turn.{Turn}
 use Rattle.evp_stone.specs.declared.turn.Turn.TheVariants.{Moved, Idle, Blocked, Closed, Memory}
@@ -22,7 +22,6 @@ use Rattle.evp_core.proofs.Behind.{one_further, stops_in_order}
 use Rattle.evp_core.proofs.Bounded.{few_turns}
 use Rattle.evp_core.proofs.GoOn.{closed_or_moves}
 use Rattle.evp_core.proofs.HeldOn.{rest_counts, turned_job}
-use Rattle.evp_core.proofs.ListsKeep.{below_there}
 use Rattle.evp_core.proofs.MovesOn.{moves_on}
 use Rattle.evp_core.proofs.Progress.{moved_counts}
 use Rattle.evp_core.proofs.Rests.{IsSameWork, role_rests, lists_rest}
@@ -175,6 +174,6 @@ pub pass_ends : (start now : WorldShape) (moved : Bool) → InPass start now (le
 pass_ends start now true pass = pass.gone
 pass_ends start now false pass =
     ⊎_elim (λ closed. closed)
-    (λ m. let count = pass.same.count in let below = below_there now.actors m.0 m.1 m.2 in
+    (λ m. let count = pass.same.count in let below = slice_get_within now.actors m.0 m.1 m.2 in
     absurd (pass.gone m.0 m.1 (omega arith) m.2 m.3))
     (closed_or_moves now pass.held.rules pass.held.job)

@@ -1,10 +1,11 @@
 -- Where an actor stands: it is closed, has nothing to take, has no room for what it gives, or can move.
-use Rattle.std.proofs.Common.{◌≡◌, ◌≢◌, ◌⊎◌, ℕ, zero, suc, ◌<◌, List, [], ◌∷◌, length, Option, Some, None}
-use Rattle.std.proofs.Common.{refl, subst, arith, inl, inr, ⊎_elim}
+use Rattle.std.proofs.Common.{◌≡◌, ◌≢◌, ◌⊎◌, ℕ, suc, ◌<◌, List, [], ◌∷◌, length, Option, Some, None}
+use Rattle.std.proofs.Common.{refl, arith, inl, inr, ⊎_elim}
 use Rattle.std.proofs.lemmas.Bool.Decides.{eqb_tells}
 use Rattle.std.specs.List.{slice_get, AllByRecursion}
 use Rattle.evp_stone.specs.declared.entry.Entry.{Entry}
 use Rattle.evp_stone.specs.Actor.{Role, feeds, works, ActorShape, HasRole}
+use Rattle.evp_stone.specs.Closed.{IsClosed}
 use Rattle.evp_stone.specs.Entries.{route_of}
 use Rattle.evp_stone.specs.Feeding.{SourceWork, to_come}
 use Rattle.evp_stone.specs.Flow.{Part}
@@ -14,13 +15,13 @@ use Rattle.evp_stone.specs.Opening.{IsNumbered}
 use Rattle.evp_stone.specs.Port.{LeadsTo}
 use Rattle.evp_stone.specs.Route.{last_stone}
 use Rattle.evp_stone.specs.State.{RouteWork, StoneWork, round_in}
+use Rattle.evp_stone.proofs.Elements.{there_below}
+use Rattle.evp_stone.proofs.LastStones.{leads_below}
+use Rattle.evp_stone.proofs.Listed.{ended_at}
 use Rattle.evp_core.specs.Answers.{GivesTo, Takes, StandsIdle}
 use Rattle.evp_core.specs.Lists.{ListsShape, IsFull, taken_on, given_on}
-use Rattle.evp_core.specs.Moving.{IsClosed}
 use Rattle.evp_core.specs.WorldShape.{WorldShape, HasRules, own_of}
-use Rattle.evp_core.proofs.Edges.{leads_below}
 use Rattle.evp_core.proofs.Given.{waits_on}
-use Rattle.evp_core.proofs.ListsKeep.{there_below}
 
 abbrev pub HasRoom : ListsShape → ℕ → Type 0
 HasRoom lists stone =
@@ -59,13 +60,6 @@ ended_or rounds (work ∷ list) =
     ⊎_elim (λ e. ⊎_elim (λ all. inl (e.1, all)) (λ more. inr (later_more rounds work list more)) (ended_or rounds list))
     (λ e. inr (record { place = 0; here = work; at = refl; more = e.1 }))
     (eqb_tells (round_in work) rounds)
-
-pub ended_at : (rounds : ℕ) (list : List RouteWork) (place : ℕ) (here : RouteWork) → slice_get list place ≡ Some here
-    → AllByRecursion (λ (work : RouteWork). round_in work ≡ rounds) list → round_in here ≡ rounds
-ended_at rounds [] place here at all = absurd (cc)
-ended_at rounds (w ∷ list) zero here at all =
-    let same : w ≡ here = cc in subst (λ (v : RouteWork). round_in v ≡ rounds) same all.0
-ended_at rounds (w ∷ list) (suc place) here at all = ended_at rounds list place here at all.1
 
 module _ (world : WorldShape) (rules : HasRules world) (is : IsJob world.lists.job) where
   abbrev lists : ListsShape

@@ -17,9 +17,9 @@ use Rattle.evp_stone.specs.Port.{LeadsTo, OneMore, Rose}
 use Rattle.evp_stone.specs.State.{StoneWork}
 use Rattle.evp_stone.specs.Turned.{Counted, RoleGoes, StoneGoes, FirstGoes, NextComes, SourceGoes, PartGoes, NoneGoes, NoRoom, HasEnded}
 use Rattle.evp_stone.proofs.Change.{set_elsewhere}
+use Rattle.evp_stone.proofs.SameActor.{found_closed}
 use Rattle.evp_core.specs.Answers.{Takes, StandsIdle, StandsBlockedAt, Tells, AnswersFor}
 use Rattle.evp_core.specs.Lists.{ListsShape, ListsGo, OneJoined, IsEmpty, IsFull, taken_on, given_on}
-use Rattle.evp_core.specs.Moving.{IsClosed}
 use Rattle.evp_core.specs.WorldShape.{WorldShape, own_of}
 use Rattle.evp_core.specs.WorldTurned.{WorldTurned, counts_before, counts_behind, lacks, one_if_long, one_if_empty}
 use Rattle.evp_core.proofs.ListsKeep.{leads_once}
@@ -119,10 +119,6 @@ module _ (lists after : ListsShape) (own : Option ℕ) (go : ListsGo own lists a
   source_idle old new [] goes = goes
   source_idle old new (part ∷ parts) goes = goes
 
-  source_closed : (old new : SourceWork) (parts : List Part) → SourceGoes job before behind old new parts Closed → parts ≡ []
-  source_closed old new [] goes = refl
-  source_closed old new (part ∷ parts) goes = absurd goes
-
   source_blocked : (old new : SourceWork) (parts : List Part) (target : ℕ) → to_come job old ≡ parts
       → SourceGoes job before behind old new parts (Blocked target) → StandsBlockedAt lists (feeds old) target
   source_blocked old new [] target is goes = absurd goes
@@ -132,7 +128,7 @@ module _ (lists after : ListsShape) (own : Option ℕ) (go : ListsGo own lists a
   source_tells old new turn goes = record {
     idle = (λ is. source_idle old new (to_come job old) (subst (SourceGoes job before behind old new (to_come job old)) is goes), λ none. absurd none);
     closed = (
-      λ is. source_closed old new (to_come job old) (subst (SourceGoes job before behind old new (to_come job old)) is goes),
+      λ is. (found_closed job before behind (feeds old) (feeds new) (subst (SourceGoes job before behind old new (to_come job old)) is goes)).0,
       λ none. none_closed old new turn (subst (λ (l : List Part). SourceGoes job before behind old new l turn) none goes),
     );
     blocked = λ memory target. (
@@ -185,12 +181,6 @@ module _ (lists after : ListsShape) (own : Option ℕ) (go : ListsGo own lists a
       empty_list_of (slice_get lists.lists old.stone) (subst (λ (o : Option ℕ). Rose 0 (lacks lists o)) of here.2),
     )
 
-    was_closed : (waiting : List Entry) (hand : Option Entry) → old.waiting ≡ waiting → old.hand ≡ hand
-        → StoneGoes job before behind old new waiting hand Closed → IsClosed job (works old unended)
-    was_closed (entry ∷ others) hand waits holds here = absurd here
-    was_closed [] (Some entry) waits holds here = absurd here
-    was_closed [] None waits holds here = (waits, holds, here.0)
-
     was_blocked : (target : ℕ) (waiting : List Entry) (hand : Option Entry) → old.waiting ≡ waiting
         → StoneGoes job before behind old new waiting hand (Blocked target) → StandsBlockedAt lists (works old unended) target
     was_blocked target (entry ∷ others) hand waits here =
@@ -208,7 +198,7 @@ module _ (lists after : ListsShape) (own : Option ℕ) (go : ListsGo own lists a
         λ at. next_idle old new turn of at.0 at.1 (stands_next at.0.waiting at.0.hand),
       );
       closed = (
-        λ is. was_closed old.waiting old.hand refl refl (answered Closed is),
+        λ is. (found_closed job before behind (works old unended) (works new unended) (answered Closed is)).0,
         λ at. next_closed old new turn at.2 (stands_next at.0 at.1),
       );
       blocked = λ memory target. (

@@ -4,9 +4,9 @@ use Rattle.evp_stone.specs.declared.entry.Entry.{Entry}
 use Rattle.evp_stone.specs.declared.turn.Turn.{Turn}
 use Rattle.evp_stone.specs.declared.turn.Turn.TheVariants.{Idle, Blocked, Closed, Memory}
 use Rattle.evp_core.specs.Lists.{ListsShape, IsEmpty, IsFull}
-use Rattle.evp_core.specs.Moving.{IsClosed}
 use Rattle.evp_core.specs.WorldShape.{WorldShape}
 use Rattle.evp_stone.specs.Actor.{Role, feeds, works, ActorShape}
+use Rattle.evp_stone.specs.Closed.{IsClosed}
 use Rattle.evp_stone.specs.Entries.{route_of}
 use Rattle.evp_stone.specs.Feeding.{to_come}
 use Rattle.evp_stone.specs.Flow.{Part}

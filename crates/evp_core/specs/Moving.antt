@@ -1,18 +1,11 @@
 -- Actors that are done, and those that can go on.
-use Rattle.std.specs.Prelude.{◌≡◌, ℕ, ◌⊎◌, [], Some, None, slice_get}
+use Rattle.std.specs.Prelude.{◌≡◌, ℕ, ◌⊎◌, Some, slice_get}
 use Rattle.evp_stone.specs.declared.turn.Turn.{Turn}
 use Rattle.evp_stone.specs.declared.turn.Turn.TheVariants.{Moved, Memory}
 use Rattle.evp_core.specs.WorldShape.{WorldShape}
 use Rattle.evp_core.specs.WorldTurned.{WorldTurned}
-use Rattle.evp_stone.specs.Actor.{Role, feeds, works, ActorShape}
-use Rattle.evp_stone.specs.Feeding.{to_come}
-use Rattle.evp_stone.specs.JobShape.{JobShape}
-use Rattle.evp_stone.specs.Turned.{HasEnded}
-
--- a source has given all; of a stone nothing waits, nothing is in hand, and all rounds have ended
-abbrev pub IsClosed : JobShape → Role → Type 0
-IsClosed job (feeds work) = to_come job work ≡ []
-IsClosed job (works work unended) = (work.waiting ≡ []) × (work.hand ≡ None) × HasEnded job work
+use Rattle.evp_stone.specs.Actor.{ActorShape}
+use Rattle.evp_stone.specs.Closed.{IsClosed}
 
 abbrev pub AreClosed : WorldShape → Type 0
 AreClosed world =

@@ -4,6 +4,7 @@ use Rattle.std.proofs.Common.{refl, sym, ap, subst, ◌∙◌, ⊎_elim, arith, 
 use Rattle.std.proofs.lemmas.Bool.Decides.{eqb_tells}
 use Rattle.std.specs.List.{slice_get}
 use Rattle.evp_stone.proofs.Change.{set_here, set_elsewhere}
+use Rattle.evp_stone.proofs.Elements.{snoc_at, there_below}
 use Rattle.evp_crew.specs.declared.rota.Rota.{Rota}
 use Rattle.evp_crew.specs.declared.three.Three.{Three}
 use Rattle.evp_crew.specs.declared.worker.Worker.{Worker}
@@ -11,7 +12,7 @@ use Rattle.evp_crew.specs.Carried.{IsDoneAt, AreSlots, AreFirst}
 use Rattle.evp_crew.specs.Done.{IsDone, AreDone, WorksAt}
 use Rattle.evp_crew.specs.Gathering.{AllWork}
 use Rattle.evp_crew.specs.Seat.{SeatShape}
-use Rattle.evp_crew.proofs.Lists.{snoc_at, front_at, last_there, there_below}
+use Rattle.evp_crew.proofs.Lists.{front_at, last_there}
 
 same_seat : (a b : SeatShape) → Some (Some a) ≡ Some (Some b) → a ≡ b
 same_seat a b same = cc

@@ -1,7 +1,7 @@
 pub mod Accounts
 pub mod Crossing
-pub mod Fronts
 pub mod Gathered
+pub mod Givers
 pub mod Giving
 pub mod Lists
 pub mod OpeningFacts

@@ -1,11 +1,10 @@
 -- The queues of a crew are opened one after another, and its seats are made of their parts.
-use Rattle.std.proofs.Common.{◌≡◌, ◌≢◌, ℕ, zero, suc, ◌+◌, true, List, [], ◌∷◌, ◌++◌, length, set, Option, Some, None}
+use Rattle.std.proofs.Common.{◌≡◌, ◌≢◌, ℕ, ◌+◌, true, List, [], ◌∷◌, ◌++◌, length, set, Option, Some, None}
 use Rattle.std.proofs.Common.{refl, sym, ap, subst, ◌∙◌, ⊎_elim, arith, length-append, length-set}
-use Rattle.std.specs.Prelude.{◌==◌}
-use Rattle.std.proofs.lemmas.Bool.{false≢true, eq-eqb}
+use Rattle.std.proofs.lemmas.Bool.{false≢true}
 use Rattle.std.proofs.lemmas.Bool.Decides.{eqb_tells, nat_tests}
-use Rattle.std.proofs.lemmas.Option.{slice_get_within, get_or_from_slice_get, slice_get-get_or}
-use Rattle.std.specs.List.{slice_get, Contains}
+use Rattle.std.proofs.lemmas.Option.{slice_get_within}
+use Rattle.std.specs.List.{slice_get}
 use Rattle.evp_cache.specs.Known.{Cells}
 use Rattle.evp_graph.specs.declared.route.Route.{Route}
 use Rattle.evp_queue.specs.Counts.{count_at, is_among, zeroed}
@@ -15,9 +14,9 @@ use Rattle.evp_queue.specs.declared.queue.StoneQueue.{StoneQueue}
 use Rattle.evp_stone.specs.declared.entry.Entry.{Entry}
 use Rattle.evp_stone.specs.JobShape.{JobShape}
 use Rattle.evp_stone.specs.Route.{last_stone}
-use Rattle.evp_stone.specs.Tallied.{ending_from, routes_at}
-use Rattle.evp_stone.proofs.Apart.{end_at}
 use Rattle.evp_stone.proofs.Change.{set_elsewhere}
+use Rattle.evp_stone.proofs.Elements.{snoc_at}
+use Rattle.evp_stone.proofs.Listed.{listed, leads_there}
 use Rattle.evp_crew.specs.declared.crew.Crew.{Crew}
 use Rattle.evp_crew.specs.declared.opening.Queue.{Queue}
 use Rattle.evp_crew.specs.declared.passes.Taker.{Taker}
@@ -26,7 +25,7 @@ use Rattle.evp_crew.specs.Parting.{IsRest, AreRests, TakesAll, IsTake, AreTakes,
 use Rattle.evp_crew.specs.Passes.{Giver, GivesIn, TakesIn}
 use Rattle.evp_crew.specs.Seat.{SeatShape}
 use Rattle.evp_crew.specs.Ways.{IsWay}
-use Rattle.evp_crew.proofs.Lists.{snoc_at, front_at, last_there}
+use Rattle.evp_crew.proofs.Lists.{front_at, last_there}
 
 zeroed_at : (number : ℕ) (numbers : List ℕ) → is_among number numbers ≡ true → count_at number (zeroed numbers) ≡ Some 0
 zeroed_at number [] among = absurd (false≢true among)
@@ -36,35 +35,6 @@ zeroed_among : (number count : ℕ) (numbers : List ℕ) → count_at number (ze
 zeroed_among number count [] is = absurd (cc)
 zeroed_among number count (n ∷ numbers) is =
     ⊎_elim (λ e. rw e.0) (λ e. rw e.0 (zeroed_among number count numbers (rw e.0 at is))) (eqb_tells n number)
-
--- the number of a route that leads to the stone is listed
-pub ends_listed : (stone first : ℕ) (routes : List Route) (place : ℕ) (route : Route) → slice_get routes place ≡ Some route
-    → last_stone route ≡ stone → (k : ℕ) × (slice_get (ending_from stone first routes) k ≡ Some (first + place))
-ends_listed stone first [] place route at last = absurd (cc)
-ends_listed stone first (r ∷ routes) zero route at last =
-    let here : (last_stone r == stone) ≡ true = eq-eqb (last_stone r) stone (ap last_stone (let s : r ≡ route = cc in s) ∙ last) in
-    (0, rw here (ap (λ (n : ℕ). Some n) (omega arith)))
-ends_listed stone first (r ∷ routes) (suc place) route at last =
-    let more = ends_listed stone (first + 1) routes place route at last in
-    ⊎_elim (λ e. (suc more.0, rw e.0 (more.1 ∙ ap (λ (n : ℕ). Some n) (omega arith))))
-    (λ e. (more.0, rw e.0 (more.1 ∙ ap (λ (n : ℕ). Some n) (omega arith))))
-    (eqb_tells (last_stone r) stone)
-
-listed : (job : JobShape) (stone number : ℕ) (route : Route) → slice_get job.routes number ≡ Some route → last_stone route ≡ stone
-    → Contains (routes_at job stone) number
-listed job stone number route at last =
-    let there = ends_listed stone 0 job.routes number route at last in
-    let is : slice_get (routes_at job stone) there.0 ≡ Some number = there.1 ∙ ap (λ (n : ℕ). Some n) (omega arith) in
-    (there.0, slice_get_within (routes_at job stone) there.0 number is, get_or_from_slice_get (routes_at job stone) there.0 number number is)
-
--- and one that is listed leads to it
-ends_there : (job : JobShape) (stone number : ℕ) → Contains (routes_at job stone) number
-    → (route : Route) × (slice_get job.routes number ≡ Some route) × (last_stone route ≡ stone)
-ends_there job stone number there =
-    let at : slice_get (routes_at job stone) there.0 ≡ Some number =
-    slice_get-get_or (routes_at job stone) there.0 number there.1 ∙ ap (λ (n : ℕ). Some n) there.2 in
-    let end = end_at stone 0 job.routes there.0 number at in
-    (end.route, ap (slice_get job.routes) (let e = end.is in omega arith) ∙ end.there, end.last)
 
 module _ (job : JobShape) where
   -- so far the queues of the stones below this number are open
@@ -167,13 +137,14 @@ module _ (job : JobShape) where
           whole = ap (λ (p : Progress JobShape). p.whole) one.taken;
         };
         counts = λ number in_list.
-            let end = ends_there job behind number in_list in
+            let end = leads_there job behind number in_list in
             ap (λ (p : Progress JobShape). count_at number p.counts) one.taken
-            ∙ zeroed_at number one.numbers (one.ways.all number end.0 end.1 (way end.0 end.2));
+            ∙ zeroed_at number one.numbers (one.ways.all number end.route end.there (way end.route end.last));
         alone = λ number count at.
-            let among = zeroed_among number count one.numbers (sym (ap (λ (p : Progress JobShape). count_at number p.counts) one.taken) ∙ at) in
+            let among = zeroed_among number count one.numbers (sym (ap (λ (p : Progress JobShape). count_at number p.counts) one.taken)
+            ∙ at) in
             let route = one.ways.each number among in
-            listed job behind number route.0 route.1 route.2.target_is;
+            listed job behind number (record { route = route.0; there = route.1; last = route.2.target_is });
       }
 
       take_here : (actor : ℕ) → actor ≡ length job.sources + behind → IsTake later job actor (Some made.take)
@@ -190,7 +161,8 @@ module _ (job : JobShape) where
         takes_long = omega (arith, length-append takes (Some made.take ∷ []), was.takes_long);
         rests_are = λ stone rest at.
             ⊎_elim (λ e. wider_rest stone rest (was.rests_are stone rest e))
-            (λ e. subst (λ (s : ℕ). IsRest later job 0 s rest) (sym (e.0 ∙ was.rests_long)) (subst (IsRest later job 0 behind) e.1 rest_here))
+            (λ e. subst (λ (s : ℕ). IsRest later job 0 s rest) (sym (e.0 ∙ was.rests_long))
+            (subst (IsRest later job 0 behind) e.1 rest_here))
             (snoc_at rests (Some made.rest) rest stone at);
         takes_are = λ actor take at.
             ⊎_elim (λ e. wider_take actor take (was.takes_are actor take e))

@@ -18,7 +18,7 @@ use Rattle.evp_stone.specs.declared.entry.Entry.{Entry}
 use Rattle.evp_stone.specs.JobShape.{JobShape}
 use Rattle.evp_stone.specs.Route.{last_stone}
 use Rattle.evp_stone.proofs.Change.{set_here, set_elsewhere}
-use Rattle.evp_crew.proofs.Lists.{snoc_at}
+use Rattle.evp_stone.proofs.Elements.{snoc_at}
 use Rattle.evp_crew.specs.declared.crew.Crew.{Crew}
 use Rattle.evp_crew.specs.Parting.{IsRest, AreRests, IsShare, AreShares}
 use Rattle.evp_crew.specs.Passes.{Giver, GivesIn}
@@ -79,7 +79,8 @@ module _ (crew : Crew) (job : JobShape) (actor stone : ℕ) (mine : List ℕ) (w
     }
 
   -- it gives to it
-  module _ (pass share left : Pass) (queue : StoneQueue Entry JobShape) (of : GivesIn crew job stone pass) (there : slice_get crew.queues.items stone ≡ Some queue)
+  module _ (pass share left : Pass) (queue : StoneQueue Entry JobShape) (of : GivesIn crew job stone pass)
+      (there : slice_get crew.queues.items stone ≡ Some queue)
       (share_is : GivesTo queue share × (giver_of share ≡ part_of mine (giver_of pass)))
       (left_is : GivesTo queue left × (giver_of left ≡ rest_of mine (giver_of pass)))
       (counts : (number : ℕ) (route : Route) → slice_get job.routes number ≡ Some route → last_stone route ≡ stone
@@ -165,7 +166,8 @@ module _ (crew : Crew) (job : JobShape) (actor : ℕ) where
     done = omega (arith, length-append shares (share ∷ []), so_far.done);
     parted = λ stone r below there.
         ⊎_elim (λ e.
-        let same = same_giver rest r (sym (set_here rests behind was rest at) ∙ ap (slice_get (set rests behind rest)) (sym e.1) ∙ there) in
+        let same = same_giver rest r (sym (set_here rests behind was rest at) ∙ ap (slice_get (set rests behind rest)) (sym e.1)
+        ∙ there) in
         subst (λ (s : ℕ). IsRest crew job (actor + 1) s r) (sym e.1) (subst (IsRest crew job (actor + 1) behind) same is))
         (λ e. let apart = e.1 in so_far.parted stone r (omega (arith, apart)) (sym (set_elsewhere rests behind stone rest e.1) ∙ there))
         (eqb_tells stone behind);

@@ -16,7 +16,8 @@ module _ (three : Three) (seats : List SeatShape) (number : ℕ) (was new : Seat
   here : (s : SeatShape) → slice_get (set seats number new) number ≡ Some s → new ≡ s
   here s there = same_seat new s (sym (set_here seats number was new at) ∙ there)
 
-  pub order_set : (count : ℕ) → AreInOrder three count seats → IsInOrder three was.number new → AreInOrder three count (set seats number new)
+  pub order_set : (count : ℕ) → AreInOrder three count seats → IsInOrder three was.number new
+      → AreInOrder three count (set seats number new)
   order_set count are is = record {
     long = length-set seats number new ∙ are.long;
     each = λ place s there.

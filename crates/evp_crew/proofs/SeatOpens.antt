@@ -1,5 +1,5 @@
 -- A seat of an actor that hasn't had a turn.
-use Rattle.std.proofs.Common.{◌≡◌, ℕ, ◌+◌, ◌-◌, ◌<◌, List, [], ◌∷◌, ◌++◌, length, Option, Some, None, refl, sym, ap, subst, ◌∙◌, arith, get_or}
+use Rattle.std.proofs.Common.{◌≡◌, ℕ, ◌+◌, ◌-◌, ◌<◌, length, Option, Some, None, refl, sym, ap, subst, ◌∙◌, arith, get_or}
 use Rattle.std.proofs.Common.{inl, inr}
 use Rattle.std.specs.Prelude.{◌⊎◌}
 use Rattle.std.proofs.lemmas.Option.{slice_get-get_or}
@@ -9,10 +9,9 @@ use Rattle.evp_graph.specs.declared.route.Route.{Route}
 use Rattle.evp_stone.specs.Actor.{Role, feeds, works, ActorShape, HasActed}
 use Rattle.evp_stone.specs.Job.{IsJob}
 use Rattle.evp_stone.specs.JobShape.{JobShape}
-use Rattle.evp_stone.specs.Opening.{IsNumbered, GivesOn, takes_on, IsFresh}
+use Rattle.evp_stone.specs.Opening.{IsNumbered, takes_on, IsFresh}
 use Rattle.evp_stone.specs.Port.{Counting}
-use Rattle.evp_stone.specs.Route.{last_of, last_stone}
-use Rattle.evp_stone.proofs.JobFacts.{ends_at}
+use Rattle.evp_stone.specs.Route.{last_stone}
 use Rattle.evp_stone.proofs.LastStones.{last_stone_below}
 use Rattle.evp_crew.specs.declared.crew.Crew.{Crew}
 use Rattle.evp_crew.specs.declared.passes.Passes.{Passes}
@@ -20,39 +19,13 @@ use Rattle.evp_crew.specs.declared.passes.Taker.{Taker}
 use Rattle.evp_crew.specs.Parting.{actors_of, IsReady}
 use Rattle.evp_crew.specs.Passes.{Giver, taken_by, given_at, given_on, given_by, stone_of, TakesIn, AreOf}
 use Rattle.evp_crew.specs.Seat.{TakesFor, IsSeat}
-use Rattle.evp_crew.specs.Ways.{before_last, giver_from, giver_number}
-
-pub before_snoc : (stones : List ℕ) (last : ℕ) → 0 < length stones → before_last (stones ++ last ∷ []) ≡ Some (last_of stones)
-before_snoc [] last some = absurd (omega arith)
-before_snoc (s ∷ []) last some = refl
-before_snoc (s ∷ t ∷ []) last some = refl
-before_snoc (s ∷ t ∷ u ∷ stones) last some = before_snoc (t ∷ u ∷ stones) last (omega arith)
-
-pub before_one : (stones : List ℕ) → length stones ≡ 1 → before_last stones ≡ None
-before_one [] one = refl
-before_one (s ∷ []) one = refl
-before_one (s ∷ t ∷ stones) one = absurd (omega arith)
+use Rattle.evp_crew.specs.Ways.{giver_number}
+use Rattle.evp_crew.proofs.Givers.{giver_of_role}
 
 same_taker : (a b : Taker) → Some a ≡ Some b → a ≡ b
 same_taker a b same = cc
 
 module _ (job : JobShape) (is_job : IsJob job) (number : ℕ) where
-  -- the actor gives on the routes that say so
-  giver_of_role : (role : Role) → IsNumbered job number role → (place : ℕ) (route : Route) → slice_get job.routes place ≡ Some route
-      → GivesOn job role route → giver_number job route ≡ number
-  giver_of_role (feeds work) numbered place route at gives =
-      let ends = ends_at job is_job place route at in
-      let long = ap length gives.1 in
-      let e = ends.ends in
-      ap (giver_from (length job.sources) route.source) (before_one route.stones (omega arith)) ∙ gives.0 ∙ numbered.1
-  giver_of_role (works work unended) numbered place route at gives =
-      let ends = ends_at job is_job gives.number gives.route gives.there in
-      let e = ends.ends in
-      ap (giver_from (length job.sources) route.source)
-      (ap before_last gives.goes_on.stones ∙ before_snoc gives.route.stones gives.goes_on.stone (omega arith)
-      ∙ ap (λ (n : ℕ). Some n) gives.last)
-      ∙ sym numbered.1
-
   module _ (crew : Crew) (passes : Passes) (ready : IsReady crew job number passes) where
     gives_none : (place : ℕ) (route : Route) → slice_get job.routes place ≡ Some route → giver_number job route ≡ number
         → given_by job passes.gives.items place ≡ Some 0
@@ -114,7 +87,7 @@ module _ (job : JobShape) (is_job : IsJob job) (number : ℕ) where
     fresh role numbered = record {
       takes = takes_fresh role numbered;
       others = takes_alone role numbered;
-      gives = λ place route at gives. gives_none place route at (giver_of_role role numbered place route at gives);
+      gives = λ place route at gives. gives_none place route at (giver_of_role job is_job place route at number role numbered gives);
     }
 
     pub seat_opens : (cells : Cells) (actor : ActorShape) → number < actors_of job → IsCacheOf cells job.formats

@@ -1,87 +1,16 @@
 -- A seat after a turn of its actor.
-use Rattle.std.proofs.Common.{◌≡◌, ℕ, Bool, true, false, List, [], ◌∷◌, Option, Some, None, refl, sym, ap, subst, ◌∙◌, inl, inr}
+use Rattle.std.proofs.Common.{◌≡◌, ℕ, Option, Some, None, refl, sym, ap, subst, ◌∙◌, inl, inr}
 use Rattle.std.specs.Prelude.{◌⊎◌, IsSome}
 use Rattle.std.proofs.lemmas.Bool.{false≢true}
-use Rattle.evp_stone.specs.declared.entry.Entry.{Entry}
-use Rattle.evp_stone.specs.declared.entry.Entry.TheVariants.{Item, Mark}
-use Rattle.evp_stone.specs.declared.turn.Turn.{Turn}
-use Rattle.evp_stone.specs.declared.turn.Turn.TheVariants.{Moved, Idle, Blocked, Closed, Memory}
 use Rattle.evp_stone.specs.Actor.{Role, feeds, works, ActorShape, HasActed}
-use Rattle.evp_stone.specs.Feeding.{SourceWork, to_come}
-use Rattle.evp_stone.specs.Flow.{Part}
 use Rattle.evp_stone.specs.JobShape.{JobShape}
-use Rattle.evp_stone.specs.Opening.{IsNumbered}
-use Rattle.evp_stone.specs.State.{Received, RouteWork, StoneWork, is_frozen, round_in}
-use Rattle.evp_stone.specs.Turned.{Counted, SourceGoes, StoneGoes, RoleGoes}
-use Rattle.evp_stone.specs.Turning.{Deals}
+use Rattle.evp_stone.proofs.SameActor.{IsSame, numbered_still}
 use Rattle.evp_cache.specs.Known.{Cells}
 use Rattle.evp_crew.specs.declared.crew.Crew.{Crew}
 use Rattle.evp_crew.specs.declared.passes.Passes.{Passes}
 use Rattle.evp_crew.specs.Ends.{PortShape}
-use Rattle.evp_crew.specs.Closed.{IsClosed}
 use Rattle.evp_crew.specs.Passes.{taken_by, given_by, stone_of, AreOf, Stay}
 use Rattle.evp_crew.specs.Seat.{SeatShape, TakesFor, IsSeat, IsOf}
-
--- it stays the actor of the same source or stone
-abbrev pub IsSame : Role → Role → Type 0
-IsSame (feeds old) (feeds new) = new.source ≡ old.source
-IsSame (feeds old) (works new unended) = ⊥
-IsSame (works old unended) (feeds new) = ⊥
-IsSame (works old unended) (works new still) = new.stone ≡ old.stone
-
-module _ (job : JobShape) (before after : Counted) where
-  source_stays : (old new : SourceWork) (parts : List Part) (turn : Turn) → SourceGoes job before after old new parts turn
-      → new.source ≡ old.source
-  source_stays old new [] Moved goes = absurd goes
-  source_stays old new [] Idle goes = absurd goes
-  source_stays old new [] (Blocked target) goes = absurd goes
-  source_stays old new [] Closed goes = ap (λ (w : SourceWork). w.source) goes.1
-  source_stays old new [] Memory goes = absurd goes
-  source_stays old new (part ∷ parts) Moved goes = goes.1.source
-  source_stays old new (part ∷ parts) Idle goes = absurd goes
-  source_stays old new (part ∷ parts) (Blocked target) goes = ap (λ (w : SourceWork). w.source) goes.1
-  source_stays old new (part ∷ parts) Closed goes = absurd goes
-  source_stays old new (part ∷ parts) Memory goes = ap (λ (w : SourceWork). w.source) goes.1
-
-  deals_stay : (old new : StoneWork) (place : ℕ) (here : RouteWork) (frozen : Bool) (kept : List Received) (entry : Entry)
-      → Deals job old new place here frozen kept entry → new.stone ≡ old.stone
-  deals_stay old new place here true kept (Item route position index owned) is = ap (λ (w : StoneWork). w.stone) is
-  deals_stay old new place here true kept (Mark route position round) ended = ap (λ (w : StoneWork). w.stone) ended.is
-  deals_stay old new place here false (r ∷ kept) entry acted = ap (λ (w : StoneWork). w.stone) acted.is
-  deals_stay old new place here false [] (Item route position index owned) acted = ap (λ (w : StoneWork). w.stone) acted.is
-  deals_stay old new place here false [] (Mark route position round) ended = ap (λ (w : StoneWork). w.stone) ended.is
-
-  stone_stays : (old new : StoneWork) (waiting : List Entry) (hand : Option Entry) (turn : Turn)
-      → StoneGoes job before after old new waiting hand turn → new.stone ≡ old.stone
-  stone_stays old new (entry ∷ others) hand Moved goes = ap (λ (w : StoneWork). w.stone) goes.1
-  stone_stays old new (entry ∷ others) hand Idle goes = absurd goes
-  stone_stays old new (entry ∷ others) hand (Blocked target) goes = ap (λ (w : StoneWork). w.stone) goes.1
-  stone_stays old new (entry ∷ others) hand Closed goes = absurd goes
-  stone_stays old new (entry ∷ others) hand Memory goes = ap (λ (w : StoneWork). w.stone) goes.1
-  stone_stays old new [] (Some entry) Moved goes =
-      let turn = goes.1 in
-      deals_stay old new turn.place turn.here (is_frozen job old.stone (round_in turn.here)) turn.here.kept entry turn.deals
-  stone_stays old new [] (Some entry) Idle goes = absurd goes
-  stone_stays old new [] (Some entry) (Blocked target) goes = absurd goes
-  stone_stays old new [] (Some entry) Closed goes = absurd goes
-  stone_stays old new [] (Some entry) Memory goes = ap (λ (w : StoneWork). w.stone) goes.1
-  stone_stays old new [] None Moved goes = ap (λ (w : StoneWork). w.stone) goes.1.2
-  stone_stays old new [] None Idle goes = ap (λ (w : StoneWork). w.stone) goes.3
-  stone_stays old new [] None (Blocked target) goes = absurd goes
-  stone_stays old new [] None Closed goes = ap (λ (w : StoneWork). w.stone) goes.2
-  stone_stays old new [] None Memory goes = absurd goes
-
-  pub role_stays : (old new : Role) (turn : Turn) → RoleGoes job before after old new turn → IsSame old new
-  role_stays (feeds old) (feeds new) turn goes = source_stays old new (to_come job old) turn goes
-  role_stays (feeds old) (works new unended) turn goes = goes
-  role_stays (works old unended) (feeds new) turn goes = goes
-  role_stays (works old unended) (works new still) turn goes = stone_stays old new old.waiting old.hand turn goes
-
-numbered_still : (job : JobShape) (number : ℕ) (old new : Role) → IsSame old new → IsNumbered job number old → IsNumbered job number new
-numbered_still job number (feeds old) (feeds new) same is = (is.0, same ∙ is.1)
-numbered_still job number (feeds old) (works new unended) same is = absurd same
-numbered_still job number (works old unended) (feeds new) same is = absurd same
-numbered_still job number (works old unended) (works new still) same is = rw same is
 
 takes_still : (old new : Role) (was passes : Passes) → IsSame old new → stone_of passes.take ≡ stone_of was.take → TakesFor old was
     → TakesFor new passes
@@ -152,21 +81,3 @@ seat_after seat job cells crew actor old new result is of began goes acted same 
     let are' : AreOf seat.crew seat.job new.passes = subst (λ (w : Crew). AreOf w seat.job new.passes) crew_is
     (subst (λ (j : JobShape). AreOf new.crew j new.passes) job_is are) in
     subst (λ (p : Passes). IsSeat (seat_with seat actor p)) (sym at) (turned_seat seat actor new.passes is acted' same are' stay)
-
--- an actor whose turn found that all is done
-pub closed_by : (job : JobShape) (before after : Counted) (old new : Role) → RoleGoes job before after old new Closed → IsClosed job new
-closed_by job before after (feeds old) (feeds new) goes = all_given (to_come job old) refl goes
-  where
-    all_given : (parts : List Part) → to_come job old ≡ parts → SourceGoes job before after old new parts Closed → to_come job new ≡ []
-    all_given [] is goes = ap (to_come job) goes.1 ∙ is
-    all_given (part ∷ parts) is goes = absurd goes
-closed_by job before after (feeds old) (works new unended) goes = absurd goes
-closed_by job before after (works old unended) (feeds new) goes = absurd goes
-closed_by job before after (works old unended) (works new still) goes = all_done old.waiting old.hand refl refl goes
-  where
-    all_done : (waiting : List Entry) (hand : Option Entry) → old.waiting ≡ waiting → old.hand ≡ hand
-        → StoneGoes job before after old new waiting hand Closed → IsClosed job (works new still)
-    all_done (entry ∷ others) hand first is goes = absurd goes
-    all_done [] (Some entry) none is goes = absurd goes
-    all_done [] None none is goes =
-        subst (λ (w : StoneWork). IsClosed job (works w still)) (sym goes.2) (none, is, goes.0)

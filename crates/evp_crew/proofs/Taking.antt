@@ -54,21 +54,24 @@ module _ (job : JobShape) (stone : ℕ) (old new : Pass) where
       }
 
   pub is_taken : (taker_of old).whole ≡ Some job → (result : Option Entry)
-      → IfSome result (λ entry. IsComing old entry × (taker_of new ≡ one_more (route_of entry) (taker_of old)) × (new.empties ≡ old.empties))
+      → IfSome result (λ entry. IsComing old entry × (taker_of new ≡ one_more (route_of entry) (taker_of old))
+      × (new.empties ≡ old.empties))
       → IfSome result (Taken (λ j. j ≡ job) (taken_by (taker old)) (taken_by (taker new)))
   is_taken whole None took = tt
   is_taken whole (Some entry) took = taken_one whole entry took.0 took.1
 
   -- the pass stays one for the same flows
   whole_stays : (result : Option Entry)
-      → IfSome result (λ entry. IsComing old entry × (taker_of new ≡ one_more (route_of entry) (taker_of old)) × (new.empties ≡ old.empties))
+      → IfSome result (λ entry. IsComing old entry × (taker_of new ≡ one_more (route_of entry) (taker_of old))
+      × (new.empties ≡ old.empties))
       → IfNone result (IsEmpty old new) → (taker_of new).whole ≡ (taker_of old).whole
   whole_stays None took none = ap (λ (p : Progress JobShape). p.whole) none.0
   whole_stays (Some entry) took none = ap (λ (p : Progress JobShape). p.whole) took.1
 
   pub takes_still : (crew : Crew) (queue : StoneQueue Entry JobShape) → slice_get crew.queues.items stone ≡ Some queue
       → TakesFrom queue new → (taker_of old).whole ≡ Some job → (result : Option Entry)
-      → IfSome result (λ entry. IsComing old entry × (taker_of new ≡ one_more (route_of entry) (taker_of old)) × (new.empties ≡ old.empties))
+      → IfSome result (λ entry. IsComing old entry × (taker_of new ≡ one_more (route_of entry) (taker_of old))
+      × (new.empties ≡ old.empties))
       → IfNone result (IsEmpty old new) → (t : Taker) → taker new ≡ Some t → TakesIn crew job t
   takes_still crew queue there takes whole result took none t is =
       subst (TakesIn crew job) (one_taker record { stone = stone; pass = new } t is) record {

@@ -67,7 +67,8 @@ module _ (job : JobShape) (giver : Option ℕ) (target : ℕ) where
   ways_not behind numbers route at not was = record {
     each = was.each;
     all = λ number r below there way.
-        ⊎_elim (λ e. absurd (not (subst (IsWay job giver target) (same_route r route (sym there ∙ ap (slice_get job.routes) e.1 ∙ at)) way)))
+        ⊎_elim (λ e. absurd (not (subst (IsWay job giver target) (same_route r route (sym there ∙ ap (slice_get job.routes) e.1 ∙ at))
+        way)))
         (λ e. let apart = e.1 in was.all number r (omega (arith, apart)) there way)
         (eqb_tells number behind);
   }

@@ -3,22 +3,22 @@ use Rattle.std.proofs.Common.{◌≡◌, List, [], ◌∷◌, ◌++◌, Option, 
 use Rattle.evp_stone.specs.declared.turn.Turn.{Turn}
 use Rattle.evp_stone.specs.declared.turn.Turn.TheVariants.{Moved, Idle, Blocked, Closed, Memory}
 use Rattle.evp_stone.specs.Actor.{Role}
+use Rattle.evp_stone.specs.Closed.{IsClosed}
 use Rattle.evp_stone.specs.JobShape.{JobShape}
 use Rattle.evp_stone.specs.Turned.{Counted, RoleGoes}
+use Rattle.evp_stone.proofs.Elements.{snoc_at}
+use Rattle.evp_stone.proofs.SameActor.{found_closed}
 use Rattle.evp_crew.specs.declared.three.Three.{Three}
-use Rattle.evp_crew.specs.Closed.{IsClosed}
 use Rattle.evp_crew.specs.Done.{IfClosed, IsDone, AreDone}
 use Rattle.evp_crew.specs.Rule.{IsServed, IsOfThree}
 use Rattle.evp_crew.specs.Seat.{SeatShape}
-use Rattle.evp_crew.proofs.Lists.{snoc_at}
-use Rattle.evp_crew.proofs.Seated.{closed_by}
 
 pub closed_if : (job : JobShape) (before after : Counted) (old new : Role) (turn : Turn) → RoleGoes job before after old new turn
     → IfClosed turn (IsClosed job new)
 closed_if job before after old new Moved goes = tt
 closed_if job before after old new Idle goes = tt
 closed_if job before after old new (Blocked target) goes = tt
-closed_if job before after old new Closed goes = closed_by job before after old new goes
+closed_if job before after old new Closed goes = (found_closed job before after old new goes).1
 closed_if job before after old new Memory goes = tt
 
 -- the turn was the one that found all done

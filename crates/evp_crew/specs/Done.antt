@@ -7,7 +7,7 @@ use Rattle.evp_crew.specs.declared.three.Three.{Three}
 use Rattle.evp_crew.specs.declared.worker.Next.{Next}
 use Rattle.evp_crew.specs.declared.worker.Next.TheVariants.{Take, Hold, End}
 use Rattle.evp_crew.specs.declared.worker.Worker.{Worker}
-use Rattle.evp_crew.specs.Closed.{IsClosed}
+use Rattle.evp_stone.specs.Closed.{IsClosed}
 use Rattle.evp_crew.specs.Rota.{three_of, ServesIn}
 use Rattle.evp_crew.specs.Rule.{IsOfThree}
 use Rattle.evp_crew.specs.Seat.{SeatShape, IsSeat}

@@ -1,6 +1,5 @@
 pub mod Alone
 pub mod Carried
-pub mod Closed
 pub mod Done
 pub mod Ends
 pub mod Gathering

@@ -58,7 +58,8 @@ module _ (crew : Crew) (job : JobShape) where
     pub is : take ≡ Some taker
     pub stone_is : taker.stone ≡ stone
     pub of : TakesIn crew job taker
-    pub counts : (number : ℕ) → Contains (routes_at job stone) number → taken_by take number ≡ Some 0
+    pub counts : (number : ℕ) → Contains (routes_at job stone) number
+        → taken_by take number ≡ Some 0
     pub alone : (number count : ℕ) → taken_by take number ≡ Some count
         → Contains (routes_at job stone) number
 

@@ -3,7 +3,7 @@ ghost use Rattle.std.specs.Prelude.{◌≡◌, length, IfOk, IsTrue, OnOk};
 ghost use Rattle.evp_cache.specs.Known.{IsCacheOf};
 ghost use Rattle.evp_crew.specs.Alone.{AreInOrder, AreClosed, IsInOrder};
 ghost use Rattle.evp_crew.specs.Carried.{IsCarried};
-ghost use Rattle.evp_crew.specs.Closed.{IsClosed};
+ghost use Rattle.evp_stone.specs.Closed.{IsClosed};
 ghost use Rattle.evp_crew.specs.Done.{IfClosed};
 ghost use Rattle.evp_crew.specs.Parting.{actors_of};
 ghost use Rattle.evp_crew.specs.Rota.{three};

@@ -1,5 +1,6 @@
 //! The carrying of a job: by workers, and where they leave something by the caller alone.
-ghost use Rattle.std.specs.Prelude.{◌≡◌, ◌≤◌, ◌++◌, ◌∷◌, [], Some, length, All, IfOk, IfSome, OnOk};
+ghost use Rattle.std.specs.Prelude.{◌≡◌, ◌≤◌, ◌++◌, ◌∷◌, [], Some, length, All};
+ghost use Rattle.std.specs.Prelude.{IfOk, IfSome, OnOk};
 ghost use Rattle.evp_cache.specs.Known.{IsCacheOf};
 ghost use Rattle.evp_crew.specs.declared.three.Three.{Three};
 ghost use Rattle.evp_crew.specs.Carried.{IsCarried};

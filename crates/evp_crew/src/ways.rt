@@ -8,7 +8,8 @@ use evp_graph::Route;
 use evp_stone::Job;
 use std::alloc::Global;
 
-/// The numbers of the routes that lead to a stone, and on which the actor gives where one is named.
+/// The numbers of the routes that lead to a stone, and on which the actor gives where one is
+/// named.
 pub(crate) fn ways(
     alloc: Global,
     job: &Job,

@@ -1,6 +1,6 @@
 //! Workers: each takes seats out of the rota, does turns, and puts them back.
 ghost use Rattle.std.specs.Prelude.{◌≡◌};
-ghost use Rattle.evp_crew.specs.Closed.{IsClosed};
+ghost use Rattle.evp_stone.specs.Closed.{IsClosed};
 ghost use Rattle.evp_crew.specs.Done.{IfClosed, WorksAt, GoesOnWith};
 ghost use Rattle.evp_crew.specs.Rota.{three};
 ghost use Rattle.evp_crew.specs.Rule.{IsOfThree};

@@ -2,14 +2,14 @@
 use Rattle.std.proofs.Common.{◌≡◌, ◌≢◌, ℕ, zero, suc, ◌+◌, ◌<◌, ◌≤◌, Bool, List, [], ◌∷◌, ◌++◌, Some}
 use Rattle.std.proofs.Common.{refl, sym, ap, ◌∙◌, arith, ⊎_elim}
 use Rattle.std.proofs.lemmas.Bool.Decides.{eqb_tells}
-use Rattle.std.proofs.lemmas.Option.{slice_get_within, get_or_from_slice_get, slice_get-map}
+use Rattle.std.proofs.lemmas.Option.{slice_get_within, get_or_from_slice_get, slice_get-map, same_Some}
 use Rattle.std.specs.Prelude.{if◌then◌else◌}
 use Rattle.std.specs.List.{slice_get, AllPairs}
 use Rattle.evp_graph.specs.declared.route.Route.{Route}
+use Rattle.evp_stone.specs.JobShape.{JobShape}
 use Rattle.evp_stone.specs.Route.{last_stone}
-use Rattle.evp_stone.specs.State.{GoesOn}
-use Rattle.evp_stone.specs.State.{RouteWork, numbers_of}
-use Rattle.evp_stone.specs.Tallied.{ending_from}
+use Rattle.evp_stone.specs.State.{GoesOn, RouteWork, numbers_of}
+use Rattle.evp_stone.specs.Tallied.{ending_from, routes_at}
 
 -- one element stands at one place
 pub same_place : {X : Type 0} (xs : List X) (i j : ℕ) (x : X) → AllPairs ◌≢◌ xs → slice_get xs i ≡ Some x → slice_get xs j ≡ Some x → i ≡ j
@@ -128,3 +128,12 @@ pub number_at : (works : List RouteWork) (numbers : List ℕ) (place : ℕ) (wor
     → slice_get works place ≡ Some work → slice_get numbers place ≡ Some work.route
 number_at works numbers place work are at =
     ap (λ (l : List ℕ). slice_get l place) (sym are) ∙ rw (slice_get-map (λ (w : RouteWork). w.route) works place, at) refl
+
+-- the routes on which a stone works end in it
+pub its_last : (job : JobShape) (stone : ℕ) (works : List RouteWork) (place : ℕ) (work : RouteWork) (route : Route)
+    → numbers_of works ≡ routes_at job stone → slice_get works place ≡ Some work → slice_get job.routes work.route ≡ Some route
+    → last_stone route ≡ stone
+its_last job stone works place work route are at there =
+    let end = end_at stone 0 job.routes place work.route (number_at works (routes_at job stone) place work are at) in
+    let same : end.place ≡ work.route = let e = end.is in omega arith in
+    ap last_stone (same_Some route end.route (sym there ∙ ap (slice_get job.routes) (sym same) ∙ end.there)) ∙ end.last

@@ -18,6 +18,7 @@ use Rattle.evp_stone.specs.Tallied.{routes_at}
 use Rattle.evp_stone.proofs.Apart.{same_place, goes_on_once, end_once, number_at}
 use Rattle.evp_stone.proofs.Lined.{AreApart, none_lined, all_lined}
 use Rattle.evp_stone.proofs.Outlets.{stays}
+use Rattle.evp_stone.proofs.Recounted.{work_as}
 
 pub set_here : {X : Type 0} (xs : List X) (k : ℕ) (x y : X) → slice_get xs k ≡ Some x → slice_get (set xs k y) k ≡ Some y
 set_here [] k x y at = absurd (cc)
@@ -82,24 +83,10 @@ pub others_stay : (job : JobShape) (taken given : Counting) (hand held : Option 
     → ((position : ℕ) (outlet : Outlet) → slice_get work.outlets position ≡ Some outlet
     → entries_of route_of outlet.route old ≡ entries_of route_of outlet.route new)
     → HasWorked job taken given held new work
-others_stay job taken given hand held old new work was hands waits = record {
-  route = was.route;
-  there = was.there;
-  handled = was.handled;
-  new = was.new;
-  count = was.count ∙ ap (λ (n : ℕ). Some (was.handled + n)) hands;
-  came = was.came;
-  rounds = was.rounds;
-  done = was.done;
-  kept = was.kept;
-  works = was.works;
-  stored = was.stored;
-  ended = was.ended;
-  running = was.running;
-  outlets = was.outlets;
-  sent = λ position outlet at. stays job given was.route position outlet (round_in work) was.done old new (was.sent position outlet at)
-      (waits position outlet at);
-}
+others_stay job taken given hand held old new work was hands waits =
+    work_as job taken taken given given hand held old new work was (was.count ∙ ap (λ (n : ℕ). Some (was.handled + n)) hands)
+    (λ position outlet at. stays job given was.route position outlet (round_in work) was.done old new (was.sent position outlet at)
+    (waits position outlet at))
 
 pub lengthened_at : (goes : ℕ → Bool) (first i : ℕ) (outlets : List Outlet) (o : Outlet) → slice_get outlets i ≡ Some o
     → (new : Outlet) × (slice_get (lengthened goes first outlets) i ≡ Some new) × (new.route ≡ o.route)

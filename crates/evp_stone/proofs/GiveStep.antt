@@ -12,6 +12,7 @@ use Rattle.evp_stone.specs.JobShape.{JobShape}
 use Rattle.evp_stone.specs.Port.{Counting, OneMore, IsNext, IsPlacedIn}
 use Rattle.evp_stone.specs.Route.{last_stone}
 use Rattle.evp_stone.specs.State.{Outlet, RouteWork, StoneWork, HasSent, HasWorked, GoesOut, HasState}
+use Rattle.evp_stone.proofs.Recounted.{work_as}
 
 some_same : (a b : ℕ) → Some a ≡ Some b → a ≡ b
 some_same a b same = cc
@@ -48,23 +49,9 @@ module _ (job : JobShape) (given later : Counting) (entry : Entry) (rest : List 
 
   pub work_given : (taken : Counting) (hand : _) (work : RouteWork) → HasWorked job taken given hand (entry ∷ rest) work
       → HasWorked job taken later hand rest work
-  work_given taken hand work was = record {
-    route = was.route;
-    there = was.there;
-    handled = was.handled;
-    new = was.new;
-    count = was.count;
-    came = was.came;
-    rounds = was.rounds;
-    done = was.done;
-    kept = was.kept;
-    works = was.works;
-    stored = was.stored;
-    ended = was.ended;
-    running = was.running;
-    outlets = was.outlets;
-    sent = λ position outlet at. sent_given was.route _ was.done position outlet (was.sent position outlet at);
-  }
+  work_given taken hand work was =
+      work_as job taken taken given later hand hand (entry ∷ rest) rest work was was.count
+      (λ position outlet at. sent_given was.route _ was.done position outlet (was.sent position outlet at))
 
   -- the entry is given
   pub gave : (taken : Counting) (old new : StoneWork) → HasState job taken given old → old.waiting ≡ entry ∷ rest

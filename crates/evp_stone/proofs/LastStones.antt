@@ -11,11 +11,11 @@ use Rattle.evp_graph.proofs.Paths.{target_below}
 use Rattle.evp_stone.specs.declared.stone.Stone.{Stone}
 use Rattle.evp_stone.specs.Job.{IsJob}
 use Rattle.evp_stone.specs.JobShape.{JobShape, graph_of}
-use Rattle.evp_stone.specs.Port.{Counting}
+use Rattle.evp_stone.specs.Port.{Counting, LeadsTo}
 use Rattle.evp_stone.specs.Route.{last_of, last_stone}
 use Rattle.evp_stone.specs.State.{RouteWork, StoneWork, HasState}
+use Rattle.evp_stone.proofs.Apart.{its_last}
 use Rattle.evp_stone.proofs.Routes.{is_route_at}
-use Rattle.evp_stone.proofs.Turns.{its_last}
 
 last_below : (targets : List (List ℕ)) → HaveTargets targets → (a : ℕ) (positions stones : List ℕ) → a < length targets
     → Steps targets a positions stones → last_of (a ∷ stones) < length targets
@@ -41,10 +41,14 @@ last_stone_below job is number route there =
     subst (λ n. last_stone route < n) (length-map job.stones (λ (s : Stone). s.targets))
     (visits_last (graph_of job) is.sound route.source route.positions route.stones visits)
 
+pub leads_below : (job : JobShape) → IsJob job → (number stone : ℕ) → LeadsTo job number stone → stone < length job.stones
+leads_below job is number stone leads =
+    subst (λ (n : ℕ). n < length job.stones) leads.last (last_stone_below job is number leads.route leads.there)
+
 -- a stone that works on a route is one of them
 pub works_below : (job : JobShape) → IsJob job → (taken given : Counting) (work : StoneWork) → HasState job taken given work
     → (place : ℕ) (here : RouteWork) → slice_get work.routes place ≡ Some here → work.stone < length job.stones
 works_below job is taken given work state place here at =
     let was = state.each place here at in
-    subst (λ (n : ℕ). n < length job.stones) (its_last job taken given work state place here was.route at was.there)
+    subst (λ (n : ℕ). n < length job.stones) (its_last job work.stone work.routes place here was.route state.numbers at was.there)
     (last_stone_below job is here.route was.route was.there)

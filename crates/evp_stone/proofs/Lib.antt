@@ -7,10 +7,13 @@ pub mod Begins
 pub mod Bounds
 pub mod CanDeal
 pub mod Change
+pub mod Collected
 pub mod Coming
 pub mod Converting
 pub mod Dealt
 pub mod Due
+pub mod Edges
+pub mod Elements
 pub mod EndStep
 pub mod FedStep
 pub mod Filed
@@ -18,6 +21,7 @@ pub mod FirstRoute
 pub mod Found
 pub mod Fronts
 pub mod Frozen
+pub mod GaveAll
 pub mod GiveStep
 pub mod HandGone
 pub mod HandStep
@@ -26,12 +30,15 @@ pub mod JobFacts
 pub mod LastStones
 pub mod LineUp
 pub mod Lined
+pub mod Listed
 pub mod Longer
 pub mod Opened
 pub mod Outcomes
 pub mod Outlets
+pub mod Recounted
 pub mod Room
 pub mod Routes
+pub mod SameActor
 pub mod Started
 pub mod StoneTurns
 pub mod TakeStep
@@ -39,6 +46,7 @@ pub mod Tallies
 pub mod Turns
 pub mod Unended
 pub mod Whole
+pub mod WholeFlow
 pub mod WorkPlaces
 pub mod Worked
 pub mod Works

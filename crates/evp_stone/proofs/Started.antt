@@ -1,11 +1,11 @@
 -- The routes of a stone are found one after another, and the outlets of a route.
-use Rattle.std.proofs.Common.{◌≡◌, ◌≢◌, ℕ, zero, suc, ◌+◌, Bool, true, false, List, [], ◌∷◌, ◌++◌, length, drop, Some, append_assoc}
-use Rattle.std.proofs.Common.{refl, sym, ap, subst, ◌∙◌, arith, inl, inr, length-append, ⊎_elim}
+use Rattle.std.proofs.Common.{◌≡◌, ◌≢◌, ℕ, ◌+◌, Bool, true, false, List, [], ◌∷◌, ◌++◌, length, drop, Some, append_assoc}
+use Rattle.std.proofs.Common.{sym, ap, subst, ◌∙◌, arith, length-append, ⊎_elim}
 use Rattle.std.proofs.lemmas.Bool.{eq-eqb}
 use Rattle.std.proofs.lemmas.Bool.Decides.{eqb_tells}
 use Rattle.std.proofs.lemmas.List.{drop_more, map-append}
 use Rattle.std.proofs.lemmas.Option.{slice_get_within, get_or_from_slice_get}
-use Rattle.std.specs.Prelude.{◌⊎◌, if◌then◌else◌, ◌==◌}
+use Rattle.std.specs.Prelude.{if◌then◌else◌, ◌==◌}
 use Rattle.std.specs.List.{slice_get, AllByRecursion}
 use Rattle.evp_graph.specs.declared.route.Route.{Route}
 use Rattle.evp_graph.proofs.Lists.{Each-append}
@@ -14,18 +14,11 @@ use Rattle.evp_stone.specs.Route.{last_stone}
 use Rattle.evp_stone.specs.Starting.{IsUnused, Starts}
 use Rattle.evp_stone.specs.State.{Outlet, RouteWork, numbers_of}
 use Rattle.evp_stone.specs.Tallied.{ending_from, routes_at}
+use Rattle.evp_stone.proofs.Elements.{snoc_at}
 
 drop_at : {X : Type 0} (xs : List X) (k : ℕ) (x : X) → slice_get xs k ≡ Some x → drop k xs ≡ x ∷ drop (k + 1) xs
 drop_at xs k x at =
     drop_more xs k x (slice_get_within xs k x at) ∙ ap (λ y. y ∷ drop (k + 1) xs) (get_or_from_slice_get xs k x x at)
-
--- an element of a list with one more at its end
-snoc_at : {X : Type 0} (xs : List X) (x y : X) (k : ℕ) → slice_get (xs ++ x ∷ []) k ≡ Some y
-    → (slice_get xs k ≡ Some y) ⊎ ((k ≡ length xs) × (x ≡ y))
-snoc_at [] x y zero at = inr (refl, cc)
-snoc_at [] x y (suc k) at = absurd (cc)
-snoc_at (z ∷ xs) x y zero at = inl at
-snoc_at (z ∷ xs) x y (suc k) at = ⊎_elim inl (λ e. inr (ap suc e.0, e.1)) (snoc_at xs x y k at)
 
 module _ (job : JobShape) (stone : ℕ) where
   -- so far the routes below this number were looked at

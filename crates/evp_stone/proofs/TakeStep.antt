@@ -1,72 +1,21 @@
 -- A turn takes an entry, or only its port's other counts moved: what holds then.
-use Rattle.std.proofs.Common.{◌≡◌, ℕ, ◌+◌, Bool, List, Option, Some, None}
+use Rattle.std.proofs.Common.{◌≡◌, ℕ, ◌+◌, Bool, Option, Some, None}
 use Rattle.std.proofs.Common.{sym, ap, subst, ◌∙◌, ⊎_elim}
 use Rattle.std.proofs.lemmas.Bool.{eq-eqb}
 use Rattle.std.proofs.Common.{ne_eqb, add-zero}
 use Rattle.std.proofs.lemmas.Bool.Decides.{eqb_tells}
 use Rattle.std.specs.Prelude.{if◌then◌else◌}
-use Rattle.evp_graph.specs.declared.route.Route.{Route}
 use Rattle.evp_stone.specs.declared.entry.Entry.{Entry}
-use Rattle.evp_stone.specs.Carried.{Carried}
 use Rattle.evp_stone.specs.Entries.{route_of, position_of}
 use Rattle.evp_stone.specs.JobShape.{JobShape}
 use Rattle.evp_stone.specs.Port.{Counting, OneMore, IsPlacedIn}
-use Rattle.evp_stone.specs.State.{Outlet, RouteWork, StoneWork, HasSent, HasWorked, IsAmong, IsLastTaken, HasState, in_hand}
-
--- no count moved
-abbrev pub AreSame : Counting → Counting → Type 0
-AreSame old new = (route : ℕ) → new route ≡ old route
-
-pub sent_still : (job : JobShape) (given later : Counting) (waiting : List Entry) (route : Route) (round : ℕ) (done : List Carried)
-    (position : ℕ) (outlet : Outlet) → AreSame given later → HasSent job given waiting route round done position outlet
-    → HasSent job later waiting route round done position outlet
-sent_still job given later waiting route round done position outlet same was = record {
-  longer = was.longer;
-  there = was.there;
-  goes_on = was.goes_on;
-  so_far = was.so_far;
-  count = same outlet.route ∙ was.count;
-  waits = was.waits;
-  lined = was.lined;
-}
-
--- other counts of the one kind, and what is taken and in hand counts as much
-pub work_still : (job : JobShape) (taken now given later : Counting) (hand held : Option Entry) (waiting : List Entry) (work : RouteWork)
-    → ((handled : ℕ) → taken work.route ≡ Some (handled + in_hand work.route hand) → now work.route ≡ Some (handled + in_hand work.route held))
-    → AreSame given later → HasWorked job taken given hand waiting work → HasWorked job now later held waiting work
-work_still job taken now given later hand held waiting work count same was = record {
-  route = was.route;
-  there = was.there;
-  handled = was.handled;
-  new = was.new;
-  count = count was.handled was.count;
-  came = was.came;
-  rounds = was.rounds;
-  done = was.done;
-  kept = was.kept;
-  works = was.works;
-  stored = was.stored;
-  ended = was.ended;
-  running = was.running;
-  outlets = was.outlets;
-  sent = λ position outlet at. sent_still job given later waiting was.route _ was.done position outlet same (was.sent position outlet at);
-}
+use Rattle.evp_stone.specs.State.{StoneWork, IsAmong, IsLastTaken, HasState, in_hand, round_in}
+use Rattle.evp_stone.proofs.Recounted.{AreSame, sent_as, work_as, state_as}
 
 -- no count moved
 pub stayed : (job : JobShape) (taken now given later : Counting) (work : StoneWork) → AreSame taken now → AreSame given later
     → HasState job taken given work → HasState job now later work
-stayed job taken now given later work takes gives state = record {
-  numbers = state.numbers;
-  port = λ route count at. state.port route count (sym (takes route) ∙ at);
-  hand = λ entry is. let last = state.hand entry is in record {
-    ours = last.ours;
-    count = takes (route_of entry) ∙ last.count;
-    placed = last.placed;
-  };
-  waiting = state.waiting;
-  each = λ place here at. work_still job taken now given later work.hand work.hand work.waiting here
-      (λ handled is. takes here.route ∙ is) gives (state.each place here at);
-}
+stayed job taken now given later work takes gives = state_as job taken now given later takes work 0 (λ number route there on. gives number)
 
 module _ (job : JobShape) (taken now given later : Counting) (entry : Entry) (more : OneMore taken now entry) (same : AreSame given later) where
   one_in_hand : (route handled : ℕ) → taken route ≡ Some (handled + 0) → now route ≡ Some (handled + in_hand route (Some entry))
@@ -100,6 +49,10 @@ module _ (job : JobShape) (taken now given later : Counting) (entry : Entry) (mo
           placed = placed;
         });
         waiting = state.waiting;
-        each = λ place here at. work_still job taken now given later old.hand (Some entry) old.waiting here
-            (λ handled w. one_in_hand here.route handled (rw none at w)) same (state.each place here at);
+        each = λ place here at. let was = state.each place here at in
+            work_as job taken now given later old.hand (Some entry) old.waiting old.waiting here was
+            (one_in_hand here.route was.handled
+            (was.count ∙ ap (λ (h : Option Entry). Some (was.handled + in_hand here.route h)) none))
+            (λ position outlet on. sent_as job given later old.waiting was.route (round_in here) was.done position outlet (same outlet.route)
+            (was.sent position outlet on));
       })

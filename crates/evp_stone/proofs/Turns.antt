@@ -1,13 +1,12 @@
 -- The turns of a stone with an entry in hand keep its state.
 use Rattle.std.proofs.Common.{◌≡◌, ◌≢◌, ℕ, ◌+◌, Bool, true, false, List, [], ◌∷◌, ◌++◌, Option, Some, None}
 use Rattle.std.proofs.Common.{inr}
-use Rattle.std.proofs.Common.{refl, sym, ap, subst, ◌∙◌, arith, ne_eqb, true≢false}
+use Rattle.std.proofs.Common.{refl, sym, ap, subst, ◌∙◌, ne_eqb, true≢false}
 use Rattle.std.proofs.lemmas.List.{append-nil}
 use Rattle.std.specs.Prelude.{if◌then◌else◌}
 use Rattle.std.specs.List.{slice_get, AllZip}
 use Rattle.std.specs.declared.sync.Arc.{Arc}
 use Rattle.std.specs.declared.alloc.Global.{Global}
-use Rattle.evp_graph.specs.declared.route.Route.{Route}
 use Rattle.evp_record.specs.OwnedBytes.{OwnedBytes}
 use Rattle.evp_stone.specs.declared.entry.Entry.{Entry}
 use Rattle.evp_stone.specs.declared.entry.Entry.TheVariants.{Item, Mark}
@@ -21,27 +20,14 @@ use Rattle.evp_stone.specs.Port.{Counting}
 use Rattle.evp_stone.specs.Route.{last_stone}
 use Rattle.evp_stone.specs.State.{Received, Running, Outlet, RouteWork, StoneWork}
 use Rattle.evp_stone.specs.State.{HasWorked, IsLastTaken, HasState, in_hand, is_frozen, round_in}
-use Rattle.evp_stone.specs.Tallied.{IsReceived, routes_at}
+use Rattle.evp_stone.specs.Tallied.{IsReceived}
 use Rattle.evp_stone.specs.Turning.{everywhere, ActedOn, ActedNext, Ended, Deals, HandTurn, keeping, acted_on, round_ended, turned}
 use Rattle.evp_stone.proofs.ActStep.{acts_kept, acts_new, keeps, round_ends, KeptFirst, kept_first}
-use Rattle.evp_stone.proofs.Apart.{end_at, number_at}
+use Rattle.evp_stone.proofs.Apart.{its_last}
 use Rattle.evp_stone.proofs.Change.{changed}
 use Rattle.evp_stone.proofs.HandStep.{StandsAt, HoldsItem, held_part, held_next, holds_item, holds_mark}
 use Rattle.evp_stone.proofs.JobFacts.{routes_apart, ends_at}
 use Rattle.evp_stone.proofs.Routes.{HasEnds}
-
-some_route : (r s : Route) → Some r ≡ Some s → r ≡ s
-some_route r s same = cc
-
--- a stone's works are of routes that end there
-pub its_last : (job : JobShape) (taken given : Counting) (old : StoneWork) → HasState job taken given old
-    → (place : ℕ) (here : RouteWork) (route : Route) → slice_get old.routes place ≡ Some here → slice_get job.routes here.route ≡ Some route
-    → last_stone route ≡ old.stone
-its_last job taken given old state place here route at there =
-    let end = end_at old.stone 0 job.routes place here.route (number_at old.routes (routes_at job old.stone) place here state.numbers at) in
-    let same : end.place ≡ here.route = let e = end.is in omega arith in
-    let is = some_route end.route route (sym end.there ∙ ap (slice_get job.routes) same ∙ there) in
-    ap last_stone (sym is) ∙ end.last
 
 -- something else is in hand than the entry of this route: for other routes no matter
 pub hand_moves : (route here : ℕ) (entry : Entry) → route_of entry ≡ here → route ≢ here
@@ -77,7 +63,7 @@ module _ (job : JobShape) (is_job : IsJob job) (taken given : Counting) (old : S
   stands = held_part job taken given [] here entry was on last.count last.placed
 
   pub its : last_stone was.route ≡ old.stone
-  its = its_last job taken given old state place here was.route at was.there
+  its = its_last job old.stone old.routes place here was.route state.numbers at was.there
 
   empties : (e : Entry) → None ≡ Some e → old.hand ≡ Some e
   empties e absurdly = absurd (cc)

@@ -2,6 +2,7 @@ pub mod Accounts
 pub mod Acted
 pub mod Actor
 pub mod Carried
+pub mod Closed
 pub mod Closing
 pub mod Dealing
 pub mod Entries

@@ -1,11 +1,13 @@
 use Rattle.std.proofs.Common.{◌≡◌, ℕ, ◌+◌, ◌≤◌, List, [], ◌∷◌, ◌++◌, length, drop, vec_len, rules}
 use Rattle.std.proofs.Common.{sym, ap, subst, ◌∙◌, arith, length-append, length-drop}
+use Rattle.std.proofs.lemmas.Option.{slice_get_within}
 use Rattle.std.specs.Prelude.{Some}
 use Rattle.std.specs.Vec.Iter.{into_iter_items, into_iter_len}
 use Rattle.evp_stone.specs.declared.account.Account.{Account}
 use Rattle.evp_stone.specs.JobShape.{JobShape}
-use Rattle.evp_core.proofs.Accounting.{AreSoFar, are_stones, account_right, account_more, at_behind, one_out, none_so_far}
-use Rattle.evp_core.proofs.ListsKeep.{below_there}
+use Rattle.evp_stone.proofs.Collected.{AreSoFar, are_stones, one_account, none_so_far}
+use Rattle.evp_stone.proofs.Elements.{next_at}
+use Rattle.evp_core.proofs.Accounting.{account_right, one_out}
 use Rattle.evp_core.proofs.world.collect.Goals as goal
 
 pub loop-init : goal.loop-init
@@ -44,15 +46,15 @@ pub account-requires : goal.account-requires
 account-requires c =
     let job = c.args.reach.now.lists.job in
     let place = length job.sources + length c.loop-actor.room.items in
-    let at = at_behind c.args.actors.items _ place c.in-Some.actor (sym c.loop-actor.invariant.left ∙ c.in-Some.ensures.steps.0) in
-    are_stones job (length c.loop-actor.room.items) c.in-Some.actor.role (c.requires.held.rules.numbered place c.in-Some.actor at)
+    let at = (next_at c.args.actors.items _ place c.in-Some.actor (sym c.loop-actor.invariant.left ∙ c.in-Some.ensures.steps.0)).0 in
+    are_stones job place c.in-Some.actor.role (c.requires.held.rules.numbered place c.in-Some.actor at) (omega arith)
 
 pub push_reserved-requires : goal.push_reserved-requires
 push_reserved-requires c =
     let job = c.args.reach.now.lists.job in
     let place = length job.sources + length c.loop-actor.room.items in
-    let at = at_behind c.args.actors.items _ place c.in-Some.actor (sym c.loop-actor.invariant.left ∙ c.in-Some.ensures.steps.0) in
-    let below = below_there c.args.actors.items place c.in-Some.actor at in
+    let at = (next_at c.args.actors.items _ place c.in-Some.actor (sym c.loop-actor.invariant.left ∙ c.in-Some.ensures.steps.0)).0 in
+    let below = slice_get_within c.args.actors.items place c.in-Some.actor at in
     let items : vec_len c.loop-actor.room ≡ length c.loop-actor.room.items = search rules in
     let count = c.requires.held.rules.count in
     let room = c.loop-actor.invariant.room in
@@ -65,8 +67,8 @@ loop-actor-preserved c =
     let now = c.push_reserved.new.self.items in
     let place = length job.sources + length was in
     let first = c.in-Some.ensures.steps.0 in
-    let at = at_behind c.args.actors.items _ place c.in-Some.actor (sym c.loop-actor.invariant.left ∙ first) in
-    let below = below_there c.args.actors.items place c.in-Some.actor at in
+    let at = (next_at c.args.actors.items _ place c.in-Some.actor (sym c.loop-actor.invariant.left ∙ first)).0 in
+    let below = slice_get_within c.args.actors.items place c.in-Some.actor at in
     let right = account_right _ c.requires.held c.requires.closed (length was) c.in-Some.actor at c.account.result
     c.account.ensures.stone c.account.ensures.account in
     let out = one_out c.args.actors.items place c.loop-actor.actor-iterator c.next-in-loop-actor.new.self (Some c.in-Some.actor)
@@ -80,7 +82,7 @@ loop-actor-preserved c =
       long = out.1;
       so_far = subst (λ (l : List Account). AreSoFar job (length l) l) (sym c.push_reserved.ensures.items)
           (subst (λ (n : ℕ). AreSoFar job n (was ++ c.account.result ∷ [])) (sym more)
-          (account_more job (length was) was c.account.result c.loop-actor.invariant.so_far right));
+          (one_account job (length was) was c.account.result c.loop-actor.invariant.so_far right.0 right.1));
       within = omega arith;
       room = subst (λ (n : ℕ). length job.stones ≤ n) (sym c.push_reserved.ensures.capacity) c.loop-actor.invariant.room;
     }

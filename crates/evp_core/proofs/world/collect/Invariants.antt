@@ -1,6 +1,6 @@
 use Rattle.std.proofs.Common.{◌≡◌, ◌≤◌, ◌+◌, length, drop, vec_capacity}
 use Rattle.std.specs.Vec.Iter.{into_iter_items, into_iter_len}
-use Rattle.evp_core.proofs.Accounting.{AreSoFar}
+use Rattle.evp_stone.proofs.Collected.{AreSoFar}
 use Rattle.evp_core.proofs.world.collect.Given as goal
 
 abbrev pub invariant-loop : goal.invariant-loop

@@ -3,7 +3,7 @@ use Rattle.std.proofs.lemmas.Bool.{false≢true}
 use Rattle.std.proofs.lemmas.Option.{slice_get_read}
 use Rattle.evp_crew.specs.Rota.{three}
 use Rattle.evp_crew.specs.Alone.{IsInOrder}
-use Rattle.evp_crew.specs.Closed.{IsClosed}
+use Rattle.evp_stone.specs.Closed.{IsClosed}
 use Rattle.evp_crew.specs.Seat.{SeatShape}
 use Rattle.evp_crew.proofs.Rotation.{order_set, closed_set}
 use Rattle.evp_crew.proofs.Working.{closed_at}

@@ -1,5 +1,6 @@
 use Rattle.std.proofs.Common.{◌≡◌, ℕ, ◌+◌, ◌<◌, ◌≤◌, List, length, set, sym, ap, subst, ◌∙◌, arith}
 use Rattle.std.proofs.lemmas.List.{length-map}
+use Rattle.std.proofs.lemmas.Option.{slice_get_within}
 use Rattle.std.specs.List.{slice_get}
 use Rattle.std.specs.declared.collections.VecDeque.{VecDeque}
 use Rattle.std.specs.declared.alloc.Global.{Global}
@@ -8,7 +9,6 @@ use Rattle.evp_stone.specs.Entries.{route_of, position_of}
 use Rattle.evp_stone.specs.JobShape.{JobShape}
 use Rattle.evp_core.specs.Lists.{ListsShape, MayJoin, OneJoined, IsFull, lists_of, entries_in}
 use Rattle.evp_core.proofs.Entering.{has_room_at}
-use Rattle.evp_core.proofs.ListsKeep.{below_there}
 use Rattle.evp_core.proofs.ListsTurn.{next_fits, joined_room, one_joined, stone_within, is_full}
 use Rattle.evp_core.proofs.lists.Lists.give.Goals as goal
 
@@ -58,7 +58,7 @@ raise-requires-clause-within c =
     let old = lists_of c.self.inside.job.now c.self.inside.lists.items c.self.inside.taken.items c.self.inside.given.items in
     let next = subst (λ (l : ListsShape). MayJoin l c.args.stone c.args.entry) (sym c.self.view_is) c.requires in
     let route : c.from-route.result ≡ route_of c.args.entry = c.from-route.ensures ∙ c.route.ensures in
-    let within = below_there old.given (route_of c.args.entry) (position_of c.args.entry) next.next in
+    let within = slice_get_within old.given (route_of c.args.entry) (position_of c.args.entry) next.next in
     omega arith
 
 pub raise-requires-clause-fits : goal.raise-requires-clause-fits

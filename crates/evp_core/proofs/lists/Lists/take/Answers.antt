@@ -1,8 +1,9 @@
 use Rattle.std.proofs.Common.{◌≡◌, ℕ, ◌+◌, ◌<◌, length, set, sym, ap, subst, ◌∙◌}
+use Rattle.std.proofs.lemmas.Option.{slice_get_within}
 use Rattle.std.specs.List.{slice_get}
 use Rattle.evp_stone.specs.Entries.{route_of, position_of}
 use Rattle.evp_core.specs.Lists.{ListsShape, IsFirst, OneLeft, lists_of}
-use Rattle.evp_core.proofs.ListsKeep.{below_there, is_first}
+use Rattle.evp_core.proofs.ListsKeep.{is_first}
 use Rattle.evp_core.proofs.ListsTurn.{first_fits, left_room, one_left}
 use Rattle.evp_core.proofs.lists.Lists.take.Goals as goal
 
@@ -20,7 +21,7 @@ route_at c = c.from-2.ensures ∙ c.route.ensures
 pub raise-requires-clause-within : goal.raise-requires-clause-within
 raise-requires-clause-within c =
     let first = first_at c in
-    let within = below_there (shape c).taken (route_of c.in_ok-entry.entry) (position_of c.in_ok-entry.entry) first.count in
+    let within = slice_get_within (shape c).taken (route_of c.in_ok-entry.entry) (position_of c.in_ok-entry.entry) first.count in
     subst (λ (n : ℕ). n < length c.self.inside.taken.items) (sym (route_at c)) within
 
 pub raise-requires-clause-fits : goal.raise-requires-clause-fits

@@ -57,7 +57,8 @@ invariant_of-self g c =
     c.from-target.ensures c.requires in
     let giver = giver_for crew job passes place c.args.entry c.self.invariant may in
     let queue = c.index.result.now in
-    let gave = c.give_by.ensures giver.pass (read_at gives place c.index_mut.result.now (Some giver.pass) giver.there c.index_mut.ensures.value) in
+    let gave = c.give_by.ensures giver.pass (read_at gives place c.index_mut.result.now (Some giver.pass) giver.there
+    c.index_mut.ensures.value) in
     let old = giver.pass in
     let new = gave.0 in
     let at = giver.in_crew.there ∙ ap (λ (q : StoneQueue Entry JobShape). Some q)
@@ -77,7 +78,8 @@ returns-clause-moves g c =
     c.from-target.ensures c.requires in
     let giver = giver_for crew job passes place c.args.entry c.self.invariant may in
     let queue = c.index.result.now in
-    let gave = c.give_by.ensures giver.pass (read_at gives place c.index_mut.result.now (Some giver.pass) giver.there c.index_mut.ensures.value) in
+    let gave = c.give_by.ensures giver.pass (read_at gives place c.index_mut.result.now (Some giver.pass) giver.there
+    c.index_mut.ensures.value) in
     let old = giver.pass in
     let new = gave.0 in
     let stay = subst (λ (o : Giver). Stay job passes record
@@ -102,7 +104,8 @@ returns-clause-fulls g c =
     c.from-target.ensures c.requires in
     let giver = giver_for crew job passes place c.args.entry c.self.invariant may in
     let queue = c.index.result.now in
-    let gave = c.give_by.ensures giver.pass (read_at gives place c.index_mut.result.now (Some giver.pass) giver.there c.index_mut.ensures.value) in
+    let gave = c.give_by.ensures giver.pass (read_at gives place c.index_mut.result.now (Some giver.pass) giver.there
+    c.index_mut.ensures.value) in
     let old = giver.pass in
     let new = gave.0 in
     subst (λ (p : PortShape). (stone : ℕ) → fulls_by p.passes.gives.items stone ≤ fulls_by (set gives place c.give_by.new.giver) stone)
@@ -121,7 +124,8 @@ returns-clause-given g c =
     c.from-target.ensures c.requires in
     let giver = giver_for crew job passes place c.args.entry c.self.invariant may in
     let queue = c.index.result.now in
-    let gave = c.give_by.ensures giver.pass (read_at gives place c.index_mut.result.now (Some giver.pass) giver.there c.index_mut.ensures.value) in
+    let gave = c.give_by.ensures giver.pass (read_at gives place c.index_mut.result.now (Some giver.pass) giver.there
+    c.index_mut.ensures.value) in
     let old = giver.pass in
     let new = gave.0 in
     subst (λ (p : PortShape). IfOk c.give_by.result (λ x. OneMore (given_by p.job p.passes.gives.items)
@@ -140,7 +144,8 @@ returns-clause-back g c =
     c.from-target.ensures c.requires in
     let giver = giver_for crew job passes place c.args.entry c.self.invariant may in
     let queue = c.index.result.now in
-    let gave = c.give_by.ensures giver.pass (read_at gives place c.index_mut.result.now (Some giver.pass) giver.there c.index_mut.ensures.value) in
+    let gave = c.give_by.ensures giver.pass (read_at gives place c.index_mut.result.now (Some giver.pass) giver.there
+    c.index_mut.ensures.value) in
     let old = giver.pass in
     let new = gave.0 in
     let back = subst (λ (o : Giver). IfErr c.give_by.result (NotGiven (given_by job gives) (given_by job (set gives place o)) place

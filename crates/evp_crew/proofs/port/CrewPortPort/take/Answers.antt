@@ -17,14 +17,16 @@ pub index-requires : goal.index-requires
 index-requires g c =
     let taker = c.in_ok-taker.taker.now in
     let of = c.self.invariant.takes taker (sym c.in_ok-taker.ensures.value) in
-    in_vec c.self.inside.crew.now.queues c.from.result of.queue (ap (slice_get c.self.inside.crew.now.queues.items) c.from.ensures ∙ of.there)
+    in_vec c.self.inside.crew.now.queues c.from.result of.queue (ap (slice_get c.self.inside.crew.now.queues.items) c.from.ensures
+    ∙ of.there)
 
 pub take-requires : goal.take-requires
 take-requires g c =
     let taker = c.in_ok-taker.taker.now in
     let of = c.self.invariant.takes taker (sym c.in_ok-taker.ensures.value) in
     let queues = c.self.inside.crew.now.queues.items in
-    let same = read_at queues c.from.result c.index.result.now of.queue (ap (slice_get queues) c.from.ensures ∙ of.there) c.index.ensures in
+    let same = read_at queues c.from.result c.index.result.now of.queue (ap (slice_get queues) c.from.ensures ∙ of.there)
+    c.index.ensures in
     subst (λ (q : StoneQueue Entry JobShape). TakesFrom q taker.pass) (sym same) of.takes
 
 pub invariant_of-self-2 : goal.invariant_of-self-2
@@ -32,7 +34,8 @@ invariant_of-self-2 g c =
     let taker = c.in_ok-taker.taker.now in
     let of = c.self.invariant.takes taker (sym c.in_ok-taker.ensures.value) in
     let queues = c.self.inside.crew.now.queues.items in
-    let same = read_at queues c.from.result c.index.result.now of.queue (ap (slice_get queues) c.from.ensures ∙ of.there) c.index.ensures in
+    let same = read_at queues c.from.result c.index.result.now of.queue (ap (slice_get queues) c.from.ensures ∙ of.there)
+    c.index.ensures in
     record {
       takes = takes_still c.self.inside.job.now taker.stone taker.pass c.take.new.pass c.self.inside.crew.now c.index.result.now
           (of.there ∙ ap (λ (q : StoneQueue Entry JobShape). Some q) (sym same)) c.take.ensures.queue of.whole c.take.result

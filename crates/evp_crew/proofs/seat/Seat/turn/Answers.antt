@@ -2,7 +2,8 @@ use Rattle.std.proofs.Common.{sym, ap, subst, ◌∙◌}
 use Rattle.evp_crew.specs.Seat.{SeatShape, IsOf}
 use Rattle.evp_crew.specs.Seated.{seat_of}
 use Rattle.evp_crew.specs.declared.passes.Passes.{Passes}
-use Rattle.evp_crew.proofs.Seated.{role_stays, seat_after}
+use Rattle.evp_stone.proofs.SameActor.{role_stays}
+use Rattle.evp_crew.proofs.Seated.{seat_after}
 use Rattle.evp_crew.proofs.seat.Seat.turn.Goals as goal
 
 pub invariant_of-self : goal.invariant_of-self

@@ -1,15 +1,24 @@
 -- A front of a flow is the whole of it exactly where its rounds are all rounds.
-use Rattle.std.proofs.Common.{◌≡◌, ℕ, ◌+◌, ◌<◌, ◌≤◌, List, [], ◌∷◌, ◌++◌, length, map, take, refl, ap, arith}
+use Rattle.std.proofs.Common.{◌≡◌, ℕ, ◌+◌, ◌<◌, ◌≤◌, List, [], ◌∷◌, ◌++◌, length, map, take, Option, Some, refl, ap, ◌∙◌, arith}
 use Rattle.std.proofs.Common.{length-append, length-take}
 use Rattle.std.proofs.lemmas.List.{length-map, take_all}
+use Rattle.std.specs.List.{slice_get}
 use Rattle.evp_graph.specs.declared.route.Route.{Route}
 use Rattle.evp_stone.specs.Accounts.{arrivals, flow_of}
 use Rattle.evp_stone.specs.Carried.{Carried}
+use Rattle.evp_stone.specs.Entries.{flow, flow_at, facts}
 use Rattle.evp_stone.specs.Flow.{Part, item, mark, flow_from}
 use Rattle.evp_stone.specs.JobShape.{JobShape}
 use Rattle.evp_stone.specs.State.{IsFront, front_of}
 use Rattle.evp_stone.proofs.JobFacts.{length-arrive}
 use Rattle.evp_stone.proofs.Routes.{HasEnds}
+
+-- the flow of a route has so many facts
+pub flow_long : (job : JobShape) (number : ℕ) (route : Route) → slice_get job.routes number ≡ Some route
+    → length (flow job number) ≡ length (flow_of job route)
+flow_long job number route at =
+    ap (λ (r : Option Route). length (facts job.formats (flow_at job r))) at
+    ∙ length-map (flow_of job route) (λ (part : Part). record { formats = job.formats; part = part })
 
 -- how many rounds end in these parts
 abbrev marks : List Part → ℕ

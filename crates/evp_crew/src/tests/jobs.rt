@@ -1,47 +1,24 @@
 //! Jobs by their documents and the bytes of their sources' files.
 
-ghost use Rattle.std.specs.Prelude.{IfSome, length, All, ◌≤◌};
-ghost use Rattle.evp_file.specs.Whole.{IsWhole};
-ghost use Rattle.evp_job.specs.Stated.{IsStated};
-
-use evp_file::{KnownFormat, RecordFile, read_file};
-use evp_job::{JobText, fill_job, read_job};
+use evp_file::read_file;
+use evp_job::{fill_job, read_job};
 use evp_stone::Job;
 use std::alloc::Global;
 
-// What the document states.
-fn stated(alloc: Global, document: &str) -> Option<JobText>
-    ensures { IfSome result IsStated }
-{
-    read_job(alloc, document.as_bytes()).ok()
-}
-
-// The file that the bytes are, by these known formats.
-fn file(alloc: Global, bytes: &[u8], known: &[KnownFormat], limit: u32) -> Option<RecordFile>
-    requires { length known.now ≤ 256 }
-    ensures { IfSome result (IsWhole known.now) }
-{
+/// The job of the document, whose one source has this file.
+pub fn job_of(alloc: Global, document: &str, bytes: &[u8]) -> Option<Job> {
+    let Ok(text) = read_job(alloc, document.as_bytes()) else {
+        return None;
+    };
     if bytes.len() > 1_000 {
         return None;
     }
-    read_file(alloc, bytes, known, limit).ok()
-}
-
-// The document with these files, where each source has one.
-fn filled(alloc: Global, text: JobText, files: Vec<RecordFile>) -> Option<Job>
-    requires stated { IsStated text }
-    requires whole { All (IsWhole text.formats.items) files.items }
-{
+    let Ok(file) = read_file(alloc, bytes, &text.formats, text.limit) else {
+        return None;
+    };
+    let files = vec![in alloc; file].ok()?;
     if files.len() != text.sources.len() {
         return None;
     }
     fill_job(alloc, text, files).ok()
-}
-
-/// The job of the document, whose one source has this file.
-pub fn job_of(alloc: Global, document: &str, bytes: &[u8]) -> Option<Job> {
-    let text = stated(alloc, document)?;
-    let file = file(alloc, bytes, &text.formats, text.limit)?;
-    let files = vec![in alloc; file].ok()?;
-    filled(alloc, text, files)
 }

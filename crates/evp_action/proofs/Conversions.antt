@@ -1,5 +1,6 @@
 -- What a plan that was found does to a record.
-use Rattle.std.proofs.Common.{◌≡◌, ℕ, ◌<◌, List, Ok, Some, None, Option, Result, sym, ap, refl, ◌∙◌, subst, slice_get, get_or, arith, length}
+use Rattle.std.proofs.Common.{◌≡◌, ℕ, ◌<◌, List, Ok, Some, None, Option, Result, sym, ap, refl, ◌∙◌, subst, slice_get, get_or, arith}
+use Rattle.std.proofs.Common.{length}
 use Rattle.std.proofs.lemmas.Option.{slice_get_within, slice_get_read}
 use Rattle.std.specs.Cow.{cow_slice_items}
 use Rattle.std.specs.declared.borrow.CowSlice.{CowSlice}
@@ -40,12 +41,14 @@ receiver_there formats from to found is = slice_get_within formats to is.receive
 -- the format of a number, by an index
 pub format_at : (formats : List Layout) (to n : ℕ) (at : Layout) → to < length formats → n ≡ to → at ≡ get_or formats n at
     → slice_get formats to ≡ Some (get_or formats n at)
-format_at formats to n at within is read = slice_get_read formats (length formats) to at refl within (read ∙ ap (λ (k : ℕ). get_or formats k at) is) ∙ ap Some read
+format_at formats to n at within is read = slice_get_read formats (length formats) to at refl within
+    (read ∙ ap (λ (k : ℕ). get_or formats k at) is) ∙ ap Some read
 
 -- the plan that was found stands for the two formats
 pub stands_for : (sender receiver : Layout) (found : Found) (plan : Planned) → IsFound sender receiver found → plan_of found ≡ Some plan
     → StandsFor plan sender receiver
-stands_for sender receiver (Plan kept) plan is there = subst (λ (p : Planned). StandsFor p sender receiver) (some_same kept plan _ refl there) is
+stands_for sender receiver (Plan kept) plan is there = subst (λ (p : Planned). StandsFor p sender receiver)
+    (some_same kept plan _ refl there) is
 stands_for sender receiver (Clash path) plan is there = absurd (none_is there)
   where
     none_is : None ≡ Some plan → ⊥
@@ -56,7 +59,8 @@ pub record IsLent (formats : List Layout) (owned : OwnedBytes) (held : Record) :
   pub format : slice_get formats owned.format ≡ Some held.layout
   pub bytes : held.bytes ≡ owned.bytes
 
-pub lent_by : (formats : List Layout) (owned shown : OwnedBytes) (held : Record) → shown ≡ owned → slice_get formats shown.format ≡ Some held.layout
+pub lent_by : (formats : List Layout) (owned shown : OwnedBytes) (held : Record) → shown ≡ owned
+    → slice_get formats shown.format ≡ Some held.layout
     → held.bytes ≡ shown.bytes → IsLent formats owned held
 lent_by formats owned shown held same format bytes = record {
   format = subst (λ (o : OwnedBytes). slice_get formats o.format ≡ Some held.layout) same format;
@@ -78,7 +82,8 @@ pub record HasPlan (formats : List Layout) (from to : ℕ) (held : Record) (plan
   pub receiver_is : slice_get formats to ≡ Some receiver
   pub stands : StandsFor plan held.layout receiver
 
-abbrev pub has_plan : (formats : List Layout) (owned : OwnedBytes) (to : ℕ) (held : Record) (found : Found) (plan : Planned) → IsLent formats owned held
+abbrev pub has_plan : (formats : List Layout) (owned : OwnedBytes) (to : ℕ) (held : Record) (found : Found) (plan : Planned)
+    → IsLent formats owned held
     → IsFoundFor formats owned.format to found → plan_of found ≡ Some plan → HasPlan formats owned.format to held plan
 has_plan formats owned to held found plan lent is there =
     let sender : is.sender ≡ held.layout = some_same _ _ _ is.sender_is lent.format in
@@ -118,7 +123,8 @@ pub into : {Z : Type 0} (formats : List Layout) (owned : OwnedBytes) (to limit :
 into formats owned to limit held found plan bytes value result lent is there passed result_is has =
     let known = has_plan formats owned to held found plan lent is there in
     let done = passed known.receiver known.stands in
-    let converted = converted_by formats owned.format to limit held plan value done.value done.size known (value_is formats owned held value lent has) done.converted in
+    let converted = converted_by formats owned.format to limit held plan value done.value done.size known
+    (value_is formats owned held value lent has) done.converted in
     record {
       value_made = done.value;
       converted = converted;
@@ -127,7 +133,8 @@ into formats owned to limit held found plan bytes value result lent is there pas
     }
 
 -- between formats that are there
-converting_is : (formats : List Layout) (from to limit : ℕ) (sender receiver : Layout) (value : Datum) (next : Datum → Outcome) (answer : Answer)
+converting_is : (formats : List Layout) (from to limit : ℕ) (sender receiver : Layout) (value : Datum) (next : Datum → Outcome)
+    (answer : Answer)
     → slice_get formats from ≡ Some sender → slice_get formats to ≡ Some receiver → conversion sender receiver value limit ≡ answer
     → converting (slice_get formats from) (slice_get formats to) limit value next ≡ then_converted answer next
 converting_is formats from to limit sender receiver value next answer from_is to_is is =
@@ -141,7 +148,8 @@ goes_on formats from to limit value made_of is next =
     converting_is formats from to limit is.sender is.receiver value next _ is.sender_is is.receiver_is is.is
 
 -- where the formats clash
-pub clash_cause : (formats : List Layout) (from to limit : ℕ) (found : Found) (value : Datum) (cause : Refusal) → IsFoundFor formats from to found
+pub clash_cause : (formats : List Layout) (from to limit : ℕ) (found : Found) (value : Datum) (cause : Refusal)
+    → IsFoundFor formats from to found
     → IsClash found cause → IsCause formats from to limit value cause
 clash_cause formats from to limit (Clash path) value (Cause why) found is =
     λ next. converting_is formats from to limit found.sender found.receiver value next (clashes path) found.sender_is found.receiver_is
@@ -161,7 +169,8 @@ refusal_is receiver run_fault.Memory m why next is there = cc
 
 -- where the value doesn't fit
 pub fault_cause : (formats : List Layout) (owned : OwnedBytes) (to limit : ℕ) (held : Record) (found : Found) (plan : Planned)
-    (fault : RunFault) (receiver : Layout) (value : Datum) (why : Reason) → IsLent formats owned held → IsFoundFor formats owned.format to found
+    (fault : RunFault) (receiver : Layout) (value : Datum) (why : Reason) → IsLent formats owned held
+    → IsFoundFor formats owned.format to found
     → plan_of found ≡ Some plan
     → ((receiver : Layout) → StandsFor plan held.layout receiver → IsRunFault fault (convert receiver (value_of held) limit))
     → slice_get formats to ≡ Some receiver → fault_reason receiver fault ≡ Some why → HasValue formats owned value

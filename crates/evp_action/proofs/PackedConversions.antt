@@ -19,11 +19,14 @@ use Rattle.evp_record.specs.Record.{Record, IsRecord, value_of}
 use Rattle.evp_runner.specs.Running.{IsConversion}
 
 -- the packed conversion of a record, whose value is one of its format
-pub packed_conversion : (plan : Planned) (held : Record) (to : Layout) (limit : ℕ) (bytes : List ℕ) → IsRecord held → IsWellLaid held.layout
-    → All (λ byte. byte < 256) held.bytes → StandsFor plan held.layout to → IsConversion held to limit bytes → IsPackedConversion held to limit bytes
+pub packed_conversion : (plan : Planned) (held : Record) (to : Layout) (limit : ℕ) (bytes : List ℕ) → IsRecord held
+    → IsWellLaid held.layout
+    → All (λ byte. byte < 256) held.bytes → StandsFor plan held.layout to → IsConversion held to limit bytes
+    → IsPackedConversion held to limit bytes
 packed_conversion plan held to limit bytes is laid are stands done =
     let typed = held_is_typed held laid are is.viewed in
-    let received = converted-receivers held.layout to (value_of held) done.value limit done.size laid stands.laid stands.no_clash typed done.converted in
+    let received = converted-receivers held.layout to (value_of held) done.value limit done.size laid stands.laid stands.no_clash typed
+    done.converted in
     let P : Datum → Type 0 = λ v. convert to (value_of held) limit ≡ made v done.size in
     record {
       fields = entries_of (Some done.value);

@@ -1,5 +1,6 @@
 -- Settings, one after another.
-use Rattle.std.proofs.Common.{◌≡◌, ℕ, ◌+◌, ◌<◌, ◌≤◌, List, [], ◌∷◌, suc, add-one, drop-cons, length, drop, get_or, sym, ap, refl, ◌∙◌, subst, arith}
+use Rattle.std.proofs.Common.{◌≡◌, ℕ, ◌+◌, ◌<◌, ◌≤◌, List, [], ◌∷◌, suc, add-one, drop-cons, length, drop, get_or, sym, ap, refl, ◌∙◌}
+use Rattle.std.proofs.Common.{subst, arith}
 use Rattle.evp_action.specs.declared.action.Setting.{Setting}
 use Rattle.evp_action.specs.declared.refusal.Refusal.{Refusal}
 use Rattle.evp_action.specs.Acting.{set_from}
@@ -51,7 +52,8 @@ all_set into k settings value old bytes so_far = record { fields = so_far.fields
 -- the settings from number k on
 left_at : (settings : List Setting) (k : ℕ) (setting : Setting) → k < length settings → setting ≡ get_or settings k setting
     → drop k settings ≡ setting ∷ drop (k + 1) settings
-left_at settings k setting within is = rw (add-one) (drop-cons settings k setting within ∙ ap (λ (s : Setting). s ∷ drop (suc k) settings) (sym is))
+left_at settings k setting within is = rw (add-one) (drop-cons settings k setting within
+    ∙ ap (λ (s : Setting). s ∷ drop (suc k) settings) (sym is))
 
 -- the loop's step, and its exit
 pub step_on : (into : Layout) (k : ℕ) (settings : List Setting) (setting : Setting) (value : Datum) (old : Entries) (bytes after : List ℕ)
@@ -62,7 +64,8 @@ step_on into k settings setting value old bytes after within is so_far step =
     one_more into k settings setting (drop (k + 1) settings) value old bytes after
     (subst (λ (rest : List Setting). SoFar into k settings rest value old bytes) (left_at settings k setting within is) so_far) step
 
-pub stop_on : (into : Layout) (k : ℕ) (settings : List Setting) (setting : Setting) (value : Datum) (old : Entries) (bytes : List ℕ) (cause : Refusal)
+pub stop_on : (into : Layout) (k : ℕ) (settings : List Setting) (setting : Setting) (value : Datum) (old : Entries) (bytes : List ℕ)
+    (cause : Refusal)
     → k < length settings → setting ≡ get_or settings k setting → SoFar into k settings (drop k settings) value old bytes
     → ((fields : Entries) → IsPacked into fields bytes → StopsBy into k (setting ∷ []) value fields cause)
     → StopsBy into 0 settings value old cause

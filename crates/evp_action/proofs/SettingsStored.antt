@@ -1,5 +1,6 @@
 -- One setting.
-use Rattle.std.proofs.Common.{◌≡◌, ℕ, ◌-◌, Bool, true, false, List, [], ◌∷◌, length, take, Result, Ok, Err, Option, Some, sym, ap, refl, ◌∙◌, subst, IsTrue}
+use Rattle.std.proofs.Common.{◌≡◌, ℕ, ◌-◌, Bool, true, false, List, [], ◌∷◌, length, take, Result, Ok, Err, Option, Some, sym, ap, refl}
+use Rattle.std.proofs.Common.{◌∙◌, subst, IsTrue}
 use Rattle.std.specs.Prelude.{ℤ, ◌↔◌, IfSome}
 use Rattle.evp_action.specs.declared.acted.Reason.TheVariants as reason
 use Rattle.evp_action.specs.declared.action.Setting.{Setting}
@@ -31,7 +32,8 @@ number_sized pointer earlier (Number kind) size is = is
 number_sized pointer earlier Text size is = tt
 number_sized pointer earlier (Nested n) size is = tt
 
-pub sized_at : (layout : Layout) (n k : ℕ) (field : Field) → IsWellLaid layout → field_at layout n k ≡ Some field → HasNumberSize field.base field.size
+pub sized_at : (layout : Layout) (n k : ℕ) (field : Field) → IsWellLaid layout → field_at layout n k ≡ Some field
+    → HasNumberSize field.base field.size
 sized_at layout n k field laid found = number_sized _ _ field.base field.size (laid_at layout n k field laid found).laid.size_allowed
 
 -- what the number does to the field
@@ -40,7 +42,8 @@ stored_in : (found : Option Field) (field : Field) (kind : Kind) (n : ℤ) (next
 stored_in found field kind n next there is fits = rw (there, is, fits) refl
 
 unfit_in : (found : Option Field) (field : Field) (kind : Kind) (n : ℤ) (next : Unit {0} → Outcome) → found ≡ Some field
-    → field.base ≡ Number kind → is_in_range kind field.size n ≡ false → stored found n next ≡ refused (reason.Unfit (step.Field field.name ∷ []))
+    → field.base ≡ Number kind → is_in_range kind field.size n ≡ false
+    → stored found n next ≡ refused (reason.Unfit (step.Field field.name ∷ []))
 unfit_in found field kind n next there is unfit = rw (there, is, unfit) refl
 
 -- a single number field and a number
@@ -74,7 +77,8 @@ is_set into k setting value n field fields after at may fits packed =
       packed = packed;
       is = λ next.
           ap (λ (read : Result ℤ EvalFault). then_number (Some k) read
-          (λ m. stored (field_at into (length into.types - 1) setting.field) m (λ _. next (with_number setting.field m fields)))) (sym at.read)
+          (λ m. stored (field_at into (length into.types - 1) setting.field) m (λ _. next (with_number setting.field m fields))))
+          (sym at.read)
           ∙ stored_in _ field may.kind n (λ _. next (with_number setting.field n fields)) at.there is within;
     }
 

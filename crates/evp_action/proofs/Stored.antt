@@ -128,7 +128,8 @@ field_pieces machine at field part datum size =
 -- of a single number that is one piece
 number_pieces : (machine : Machine) (field : Field) (part : Part) (kind : Kind) (at : ℕ) (datum : Datum) (size : ℕ)
     → part ≡ number_part kind → field.shape ≡ One
-    → field_pieces machine at field part datum size ≡ one_piece (at + field.offset) (digits machine.order field.size (as_number datum)) size
+    → field_pieces machine at field part datum size ≡ one_piece (at + field.offset)
+    (digits machine.order field.size (as_number datum)) size
 number_pieces machine field part kind at datum size is single =
     ap (λ (shape : Shape). pack_shaped machine field shape at datum
     (λ offset value after. pack_part machine part field.size offset value after) size) single
@@ -147,7 +148,8 @@ put_field machine at field part kind datum n size next is single =
     (subst New (sym (number_pieces machine field part kind at (num n) size is single))
     (put_here machine at field (as_number datum) n size next))
 
-put_pieces-append : (first rest : List Piece) (bytes : List ℕ) → put_pieces (first ++ rest) bytes ≡ put_pieces rest (put_pieces first bytes)
+put_pieces-append : (first rest : List Piece) (bytes : List ℕ) → put_pieces (first ++ rest) bytes ≡ put_pieces rest
+    (put_pieces first bytes)
 put_pieces-append [] rest bytes = refl
 put_pieces-append (piece ∷ first) rest bytes = put_pieces-append first rest (put_at piece.at piece.bytes bytes)
 
@@ -175,7 +177,8 @@ put_later machine at field n first old new later =
     }
 
 -- these fields with a number at place i
-branches_put : (machine : Machine) (branches : Branches) (at i : ℕ) (n : ℤ) (all entries : Entries) (size : ℕ) (field : Field) (kind : Kind)
+branches_put : (machine : Machine) (branches : Branches) (at i : ℕ) (n : ℤ) (all entries : Entries) (size : ℕ) (field : Field)
+    (kind : Kind)
     → branch_at branches i ≡ Some (field, number_part kind) → field.shape ≡ One → IsOfBranches all branches entries
     → IsPutOver machine at field n (pack_branches machine branches at entries size)
     (pack_branches machine branches at (with_number i n entries) size)

@@ -1,5 +1,6 @@
 -- Transforms.
-use Rattle.std.proofs.Common.{◌≡◌, ℕ, ◌+◌, ◌^◌, ◌<◌, Bool, true, false, cond, List, [], ◌∷◌, ◌++◌, length, take, drop, Result, Ok, Err, Option, Some, sym, ap, refl, ◌∙◌, subst, slice_get, arith}
+use Rattle.std.proofs.Common.{◌≡◌, ℕ, ◌+◌, ◌^◌, ◌<◌, Bool, true, false, cond, List, [], ◌∷◌, ◌++◌, length, take, drop, Result, Ok, Err}
+use Rattle.std.proofs.Common.{Option, Some, sym, ap, refl, ◌∙◌, subst, slice_get, arith}
 use Rattle.std.specs.Prelude.{All}
 use Rattle.std.proofs.Math.Seq.{take-append_seam}
 use Rattle.std.proofs.lemmas.List.Elements.{All-weaker}
@@ -45,12 +46,14 @@ can_set formats declared format into layout receiver settings are there receiver
     }) settings are.each
 
 -- a packed record of the format that is there
-pub packed_at : (formats : List Layout) (into : ℕ) (receiver : Layout) (fields : Entries) (bytes : List ℕ) → slice_get formats into ≡ Some receiver
+pub packed_at : (formats : List Layout) (into : ℕ) (receiver : Layout) (fields : Entries) (bytes : List ℕ)
+    → slice_get formats into ≡ Some receiver
     → IsPackedIn formats into fields bytes → IsPacked receiver fields bytes
 packed_at formats into receiver fields bytes there is =
     subst (λ (l : Layout). IsPacked l fields bytes) (some_same _ _ _ is.there there) is.packed
 
-pub laid_in : (formats : List Layout) (into : ℕ) (receiver : Layout) (fields : Entries) (bytes : List ℕ) → slice_get formats into ≡ Some receiver
+pub laid_in : (formats : List Layout) (into : ℕ) (receiver : Layout) (fields : Entries) (bytes : List ℕ)
+    → slice_get formats into ≡ Some receiver
     → IsPackedIn formats into fields bytes → IsWellLaid receiver
 laid_in formats into receiver fields bytes there is = subst IsWellLaid (some_same _ _ _ is.there there) is.laid
 
@@ -77,7 +80,8 @@ set_sent formats into receiver settings value fields bytes owned there laid are 
         viewed = ap (λ (o : OwnedBytes). view receiver o.bytes) is ∙ packed_viewed receiver are.fields bytes laid are.packed;
       };
       is = transformed_is formats into receiver settings value fields there
-          ∙ (are.is (λ (entries : Entries). sent to.All into (rec entries)) ∙ ap (λ (n : ℕ). sent to.All n (rec are.fields)) (sym numbered));
+          ∙ (are.is (λ (entries : Entries). sent to.All into (rec entries))
+          ∙ ap (λ (n : ℕ). sent to.All n (rec are.fields)) (sym numbered));
     }
 
 -- the setting that stops it
@@ -105,7 +109,8 @@ asks_two formats limit format into from value owned old mid new is first second 
     (sym (converts_is formats from format limit value is.value_made is.converted))
     (asks_both from format into old mid new first (subst (λ (n : ℕ). AsksOnly n into mid new) is.numbered second))
 
-pub keeps_both : (cells : Cells) (formats : List Layout) (old mid new : List Known) → Keeps cells formats old mid → Keeps cells formats mid new
+pub keeps_both : (cells : Cells) (formats : List Layout) (old mid new : List Known) → Keeps cells formats old mid
+    → Keeps cells formats mid new
     → Keeps cells formats old new
 keeps_both cells formats old mid new first second = record {
   right = second.right;
@@ -120,7 +125,8 @@ pub behind_first : (formats : List Layout) (limit format into from : ℕ) (setti
     (transformed (slice_get formats into) into settings is.value_made)
 behind_first formats limit format into from settings value owned is =
     goes_on formats from format limit value is.value_made is.converted
-    (λ made. converting (slice_get formats format) (slice_get formats into) limit made (transformed (slice_get formats into) into settings made))
+    (λ made. converting (slice_get formats format) (slice_get formats into) limit made
+    (transformed (slice_get formats into) into settings made))
     ∙ ap (λ (n : ℕ). converting (slice_get formats n) (slice_get formats into) limit is.value_made
     (transformed (slice_get formats into) into settings is.value_made)) (sym is.numbered)
 

@@ -1,5 +1,6 @@
 -- What an action's work gives, from what its parts give.
-use Rattle.std.proofs.Common.{◌≡◌, ℕ, ◌+◌, ◌<◌, ◌≤◌, Bool, true, false, List, [], ◌∷◌, length, Result, Ok, Err, Option, Some, None, sym, ap, refl, ◌∙◌, subst, slice_get, arith, slice_index_or}
+use Rattle.std.proofs.Common.{◌≡◌, ℕ, ◌+◌, ◌<◌, ◌≤◌, Bool, true, false, List, [], ◌∷◌, length, Result, Ok, Err, Option, Some, None, sym}
+use Rattle.std.proofs.Common.{ap, refl, ◌∙◌, subst, slice_get, arith, slice_index_or}
 use Rattle.std.proofs.lemmas.Bool.{false≢true}
 use Rattle.std.proofs.lemmas.Option.{slice_get_within}
 use Rattle.std.specs.List.{Contains}
@@ -45,7 +46,8 @@ can_ask cells formats ks owned to whole right has below =
     record { whole = whole; sender = slice_get_within formats owned.format has.layout has.there; receiver = below; right = right }
 
 -- the value of what was converted
-pub into_value : (formats : List Layout) (from to limit : ℕ) (value : Datum) (owned : OwnedBytes) → (is : IsInto formats from to limit value owned)
+pub into_value : (formats : List Layout) (from to limit : ℕ) (value : Datum) (owned : OwnedBytes)
+    → (is : IsInto formats from to limit value owned)
     → HasValue formats owned is.value_made
 into_value formats from to limit value owned is = record {
   layout = is.converted.receiver;
@@ -67,7 +69,8 @@ comes formats from to limit value owned what is = record {
 }
 
 -- what is done with it
-pub done_with : (formats : List Layout) (from to limit : ℕ) (value : Datum) (owned : OwnedBytes) (next : ℕ → Datum → Outcome) (acted : Acted)
+pub done_with : (formats : List Layout) (from to limit : ℕ) (value : Datum) (owned : OwnedBytes) (next : ℕ → Datum → Outcome)
+    (acted : Acted)
     → IsInto formats from to limit value owned
     → ((made : Datum) → HasValue formats owned made → IsActed formats (next owned.format made) acted)
     → IsActed formats (converting (slice_get formats from) (slice_get formats to) limit value (next to)) acted
@@ -128,11 +131,14 @@ asks_both from format into old mid new first second a b none some = cases (found
   where
     cases : (o : Option Found) → found_for mid a b ≡ o → Contains {X = ℕ × ℕ} ((from, format) ∷ (format, into) ∷ []) (a, b)
     cases None is = second_pair (from, format) (format, into) (a, b) (same_pair a b format into (second a b is some))
-    cases (Some found) is = first_pair (from, format) ((format, into) ∷ []) (a, b) (same_pair a b from format (first a b none (subst IsSome (sym is) refl)))
+    cases (Some found) is = first_pair (from, format) ((format, into) ∷ []) (a, b)
+        (same_pair a b from format (first a b none (subst IsSome (sym is) refl)))
 
 -- by one conversion
-pub by_one : (cells : Cells) (formats : List Layout) (owned : OwnedBytes) (outcome : Datum → Outcome) (to : ℕ) (rest : Datum → List (ℕ × ℕ))
-    (old new : List Known) (before after : ℕ) (answer : Result Acted Refusal) → Keeps cells formats old new → AsksOnly owned.format to old new
+pub by_one : (cells : Cells) (formats : List Layout) (owned : OwnedBytes) (outcome : Datum → Outcome) (to : ℕ)
+    (rest : Datum → List (ℕ × ℕ))
+    (old new : List Known) (before after : ℕ) (answer : Result Acted Refusal) → Keeps cells formats old new
+    → AsksOnly owned.format to old new
     → BuildsFor (spare answer) old new before after
     → ((value : Datum) → HasValue formats owned value → IsAnswer formats (outcome value) answer)
     → Works cells formats owned outcome (λ value. (owned.format, to) ∷ rest value) old new before after answer
@@ -146,14 +152,18 @@ by_one cells formats owned outcome to rest old new before after answer keeps onl
 -- the work of an action that is this one
 pub of_action : (cells : Cells) (formats : List Layout) (owned : OwnedBytes) (limit targets : ℕ) (a b : Action) (old new : List Known)
     (before after : ℕ) (answer : Result Acted Refusal) → a ≡ b
-    → Works cells formats owned (act formats limit b targets owned.format) (pairs_of formats limit b owned.format) old new before after answer
-    → Works cells formats owned (act formats limit a targets owned.format) (pairs_of formats limit a owned.format) old new before after answer
+    → Works cells formats owned (act formats limit b targets owned.format) (pairs_of formats limit b owned.format) old new before
+    after answer
+    → Works cells formats owned (act formats limit a targets owned.format) (pairs_of formats limit a owned.format) old new before
+    after answer
 of_action cells formats owned limit targets a b old new before after answer is works =
-    subst (λ (x : Action). Works cells formats owned (act formats limit x targets owned.format) (pairs_of formats limit x owned.format) old new before after answer)
+    subst (λ (x : Action). Works cells formats owned (act formats limit x targets owned.format) (pairs_of formats limit x owned.format) old
+    new before after answer)
     (sym is) works
 
 -- what was refused
-pub refused_is : (formats : List Layout) (outcome : Outcome) (answer : Result Acted Refusal) (cause : Refusal) (why : Reason) → answer ≡ Err cause
+pub refused_is : (formats : List Layout) (outcome : Outcome) (answer : Result Acted Refusal) (cause : Refusal) (why : Reason)
+    → answer ≡ Err cause
     → cause ≡ Cause why → IsAnswer formats outcome answer → outcome ≡ refused why
 refused_is formats outcome answer cause why is cause_is answers =
     subst (λ (c : Refusal). IsRefused outcome c) cause_is (subst (λ (r : Result Acted Refusal). IsAnswer formats outcome r) is answers)

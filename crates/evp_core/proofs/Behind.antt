@@ -13,7 +13,8 @@ use Rattle.evp_core.specs.WorldShape.{WorldShape}
 use Rattle.evp_core.specs.WorldTurned.{WorldTurned, HaveTurned, done_by, done_after}
 
 -- one turn more
-pub have_more : (old between new : WorldShape) (numbers : List ℕ) (number : ℕ) (turn : Turn) → HaveTurned old between numbers → turn ≢ Memory
+pub have_more : (old between new : WorldShape) (numbers : List ℕ) (number : ℕ) (turn : Turn) → HaveTurned old between numbers
+    → turn ≢ Memory
     → WorldTurned between new number turn → HaveTurned old new (numbers ++ number ∷ [])
 have_more old between new [] number turn have memory turned =
     (new, (turn, memory, subst (λ (w : WorldShape). WorldTurned w new number turn) have turned), refl)
@@ -63,7 +64,8 @@ get_behind (number ∷ front) back k =
     let same : length (number ∷ front) + k ≡ suc (length front + k) = omega arith in
     ap (slice_get (number ∷ front ++ back)) same ∙ get_behind front back k
 
-pub stopped_then : (start between end : WorldShape) (front back : List ℕ) → start.done < 2 ^ 64 → HaveTurned start between front → HasStopped between end back
+pub stopped_then : (start between end : WorldShape) (front back : List ℕ) → start.done < 2 ^ 64 → HaveTurned start between front
+    → HasStopped between end back
     → HasStopped start end (front ++ back)
 stopped_then start between end front back below first then = record {
   count = length front + then.count;

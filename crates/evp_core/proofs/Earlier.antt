@@ -90,7 +90,8 @@ module _ (lists : ListsShape) (has : HasLists lists) (is_job : IsJob lists.job) 
       let rounds = was.rounds in
       let apart = more.more in
       let fewer : round_in more.here < length job.rounds = omega arith in
-      let below = more_comes job was.route (ends_at job is_job more.here.route was.route was.there) (round_in more.here) was.handled was.new
+      let below = more_comes job was.route (ends_at job is_job more.here.route was.route was.there) (round_in more.here)
+      was.handled was.new
       was.came fewer in
       record {
         number = more.here.route;

@@ -50,7 +50,8 @@ module _ (lists : List Deque) (place : ℕ) (old new : Deque) (is : old ≡ get_
       map-set_same (λ (d : Deque). d.items) lists place new old (same ∙ ap (λ (d : Deque). d.items) is)
 
   -- one entry has joined
-  pub pushed : (entry : Entry) → new.items ≡ old.items ++ entry ∷ [] → IsPushed (entries_in lists) (entries_in (set lists place new)) place entry
+  pub pushed : (entry : Entry) → new.items ≡ old.items ++ entry ∷ [] → IsPushed (entries_in lists) (entries_in (set lists place new))
+      place entry
   pushed entry items = record {
     others = old.items;
     was = entries_there;

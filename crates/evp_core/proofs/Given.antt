@@ -85,7 +85,8 @@ module _ (job : JobShape) (before after : Counted) (number : ℕ) where
   first_gives : (old new : StoneWork) (unended : ℕ) (entry : Entry) (others : List Entry) (turn : Turn)
       → GivesAt job (works old unended) (route_of entry) → FirstGoes job before after old new entry others turn
       → StaysOrGives job before.given after.given (works old unended) number
-  first_gives old new unended entry others Moved at goes = one_given job before.given after.given (works old unended) entry number goes.0.given at
+  first_gives old new unended entry others Moved at goes = one_given job before.given after.given (works old unended) entry number
+      goes.0.given at
   first_gives old new unended entry others Idle at goes = absurd goes
   first_gives old new unended entry others (Blocked target) at goes = inl (goes.0.same.given number)
   first_gives old new unended entry others Closed at goes = absurd goes

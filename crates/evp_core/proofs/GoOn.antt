@@ -253,13 +253,15 @@ module _ (world : WorldShape) (rules : HasRules world) (is : IsJob world.lists.j
       from_idle (length targets) work.stone below [] [] tt (omega arith) a idle
 
   abbrev ClosedBelow : ℕ → Type 0
-  ClosedBelow bound = (number : ℕ) (actor : ActorShape) → number < bound → slice_get world.actors number ≡ Some actor → IsClosed job actor.role
+  ClosedBelow bound = (number : ℕ) (actor : ActorShape) → number < bound → slice_get world.actors number ≡ Some actor
+      → IsClosed job actor.role
 
   one_more : (bound : ℕ) (actor : ActorShape) → slice_get world.actors bound ≡ Some actor → ClosedBelow bound
       → Stands world rules is actor.role → ClosedBelow (suc bound) ⊎ Mover
   one_more bound actor there closed (inl here) =
       inl (λ number other below at. ⊎_elim
-      (λ e. subst (λ (o : ActorShape). IsClosed job o.role) (same_Some actor other (sym there ∙ ap (slice_get world.actors) (sym e.1) ∙ at)) here)
+      (λ e. subst (λ (o : ActorShape). IsClosed job o.role) (same_Some actor other (sym there ∙ ap (slice_get world.actors) (sym e.1)
+      ∙ at)) here)
       (λ e. let apart = e.1 in closed number other (omega arith) at)
       (eqb_tells number bound))
   one_more bound actor there closed (inr (inl idle)) =

@@ -1,5 +1,6 @@
 -- A turn keeps what a world keeps.
-use Rattle.std.proofs.Common.{◌≡◌, ◌≢◌, ◌⊎◌, ℕ, ◌+◌, ◌<◌, ◌≤◌, List, length, Option, Some, None, set, refl, sym, ap, subst, ◌∙◌, arith, inl, inr}
+use Rattle.std.proofs.Common.{◌≡◌, ◌≢◌, ◌⊎◌, ℕ, ◌+◌, ◌<◌, ◌≤◌, List, length, Option, Some, None, set, refl, sym, ap, subst, ◌∙◌, arith}
+use Rattle.std.proofs.Common.{inl, inr}
 use Rattle.std.proofs.lemmas.Option.{slice_get-get_or}
 use Rattle.std.specs.Prelude.{get_or}
 use Rattle.std.specs.List.{slice_get}
@@ -43,7 +44,8 @@ lists_keep own old new has (inl same) = subst HasLists (sym same) has
 lists_keep own old new has (inr (inl (stone, of, (entry, left)))) =
     subst HasLists (sym left.is) (left_keeps old has stone entry left.others left.was)
 lists_keep own old new has (inr (inr (stone, entry, joined))) =
-    subst HasLists (sym joined.is) (joined_keeps old has stone entry joined.others joined.was joined.room joined.leads joined.count joined.placed)
+    subst HasLists (sym joined.is) (joined_keeps old has stone entry joined.others joined.was joined.room joined.leads joined.count
+    joined.placed)
 
 module _ (old new : WorldShape) (number : ℕ) (turn : Turn) (turned : WorldTurned old new number turn) where
   -- a turn that doesn't move leaves as many turns
@@ -138,8 +140,10 @@ module _ (cells : Cells) (lists : ListsShape) (actors : List ActorShape) (held :
       there = there;
       lists = subst (λ (l : ListsShape). ListsGo (own_of was.role) l new.lists) same
           (subst (λ (o : Option ℕ). ListsGo o old.lists new.lists) own_so (lists_go old new none no_fulls moved));
-      turned = subst (λ (j : JobShape). HasTurned j (counts_before lists (own_of was.role)) (counts_behind lists new.lists (own_of was.role)) was now turn) of
-          (subst (λ (l : ListsShape). HasTurned job (counts_before l (own_of was.role)) (counts_behind l new.lists (own_of was.role)) was now turn) same
+      turned = subst (λ (j : JobShape). HasTurned j (counts_before lists (own_of was.role))
+          (counts_behind lists new.lists (own_of was.role)) was now turn) of
+          (subst (λ (l : ListsShape). HasTurned job (counts_before l (own_of was.role)) (counts_behind l new.lists (own_of was.role)) was
+          now turn) same
           (turned_so old new none no_fulls moved job was now turn (own_of was.role) own_so turned));
       is = refl;
     }

@@ -72,7 +72,8 @@ own_apart job number other (works work unended) (works others still) one two apa
     let same : work.stone ≡ others.stone = cc in
     apart (one.1 ∙ ap (λ (n : ℕ). length job.sources + n) same ∙ sym two.1)
 
-module _ (old : WorldShape) (rules : HasRules old) (new : WorldShape) (number : ℕ) (turn : Turn) (turned : WorldTurned old new number turn) where
+module _ (old : WorldShape) (rules : HasRules old) (new : WorldShape) (number : ℕ) (turn : Turn)
+    (turned : WorldTurned old new number turn) where
   abbrev job : JobShape
   job = old.lists.job
 
@@ -116,7 +117,8 @@ module _ (old : WorldShape) (rules : HasRules old) (new : WorldShape) (number : 
   same_job = lists_job (own_of turned.was.role) old.lists turned.after turned.lists
 
   -- each actor is the one that turned, or one of before
-  which : (other : ℕ) (actor : ActorShape) → slice_get after.actors other ≡ Some actor → (P : ℕ → ActorShape → Type 0) → P number turned.now
+  which : (other : ℕ) (actor : ActorShape) → slice_get after.actors other ≡ Some actor → (P : ℕ → ActorShape → Type 0)
+      → P number turned.now
       → (slice_get old.actors other ≡ Some actor → other ≢ number → P other actor) → P other actor
   which other actor at P here there =
       ⊎_elim (λ e.
@@ -133,7 +135,8 @@ module _ (old : WorldShape) (rules : HasRules old) (new : WorldShape) (number : 
       → HasActed job old.cells (taken_on turned.after (own_of turned.was.role)) (given_on turned.after) turned.now → HasRules new
   turn_keeps lists acted = subst HasRules (sym turned.is) (record {
     lists = lists;
-    count = length-set old.actors number turned.now ∙ rules.count ∙ ap (λ (j : JobShape). length j.sources + length j.stones) (sym same_job);
+    count = length-set old.actors number turned.now ∙ rules.count ∙ ap (λ (j : JobShape). length j.sources + length j.stones)
+        (sym same_job);
     numbered = λ other actor at. subst (λ (j : JobShape). IsNumbered j other actor.role) (sym same_job)
         (which other actor at (λ n a. IsNumbered job n a.role) still_numbered (λ was apart. rules.numbered other actor was));
     acted = λ other actor at. subst

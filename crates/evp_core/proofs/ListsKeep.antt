@@ -129,8 +129,10 @@ module _ (old : ListsShape) (has : HasLists old) where
     carries_joined number on taken given takes gives =
         ⊎_elim (λ e.
         let is : position_of entry + 1 ≡ given = same_Some _ _
-        (sym (set_here old.given (route_of entry) (position_of entry) (position_of entry + 1) next) ∙ ap (slice_get given_now) (sym e.1) ∙ gives) in
-        let more = carries_more route_of position_of flow stands_for old.job (route_of entry) taken (position_of entry) others entry placed.0
+        (sym (set_here old.given (route_of entry) (position_of entry) (position_of entry + 1) next) ∙ ap (slice_get given_now) (sym e.1)
+        ∙ gives) in
+        let more = carries_more route_of position_of flow stands_for old.job (route_of entry) taken (position_of entry) others entry
+        placed.0
         (was_rule.carries (route_of entry) leads taken (position_of entry) (ap (slice_get old.taken) (sym e.1) ∙ takes) next)
         refl refl placed.1 placed.2 in
         subst (λ (n : ℕ). Carries route_of position_of flow stands_for old.job n taken given entries_now) (sym e.1)

@@ -12,7 +12,8 @@ use Rattle.evp_stone.proofs.Elements.{there_below}
 use Rattle.evp_stone.proofs.JobFacts.{ends_at}
 use Rattle.evp_stone.proofs.LastStones.{leads_below}
 use Rattle.evp_stone.proofs.WholeFlow.{flow_long}
-use Rattle.evp_core.specs.Lists.{ListsShape, HasLists, HasRoom, IsFirst, MayJoin, IsPopped, IsPushed, OneLeft, OneJoined, IsFull, left_by, joined_by}
+use Rattle.evp_core.specs.Lists.{ListsShape, HasLists, HasRoom, IsFirst, MayJoin, IsPopped, IsPushed, OneLeft, OneJoined, IsFull, left_by}
+use Rattle.evp_core.specs.Lists.{joined_by}
 use Rattle.evp_core.proofs.ListsKeep.{left_keeps, joined_keeps}
 
 -- a place in a flow fits its type
@@ -65,11 +66,17 @@ module _ (old : ListsShape) (stone : ℕ) (entry : Entry) where
     is_joined : ahead ≡ joined_by old stone entry push.others
     is_joined =
         ap (λ (l : List (List Entry)). record { job = old.job; lists = l; taken = old.taken; given = given }) push.is
-        ∙ ap (λ (g : List ℕ). record { job = old.job; lists = set old.lists stone (push.others ++ entry ∷ []); taken = old.taken; given = g }) raised
+        ∙ ap (λ (g : List ℕ). record {
+          job = old.job;
+          lists = set old.lists stone (push.others ++ entry ∷ []);
+          taken = old.taken;
+          given = g;
+        }) raised
 
     pub joined_room : (rooms now : List ℕ) → HasRoom old rooms → now ≡ rooms → HasRoom ahead now
     joined_room rooms now has same = record {
-      has = subst HasLists (sym is_joined) (joined_keeps old has.has stone entry push.others push.was room next.leads next.next next.placed);
+      has = subst HasLists (sym is_joined) (joined_keeps old has.has stone entry push.others push.was room next.leads next.next
+          next.placed);
       room = subst (λ (l : List ℕ). AllByRecursion (λ (r : ℕ). old.job.queue ≤ r) l) (sym same) has.room;
     }
 

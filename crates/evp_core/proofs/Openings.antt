@@ -1,5 +1,6 @@
 -- The opening world has its rules.
-use Rattle.std.proofs.Common.{◌≡◌, ℕ, zero, suc, ◌+◌, ◌<◌, Bool, List, [], ◌∷◌, ◌++◌, length, Option, Some, None, refl, sym, ap, subst, ◌∙◌, arith, ⊎_elim}
+use Rattle.std.proofs.Common.{◌≡◌, ℕ, zero, suc, ◌+◌, ◌<◌, Bool, List, [], ◌∷◌, ◌++◌, length, Option, Some, None, refl, sym, ap, subst}
+use Rattle.std.proofs.Common.{◌∙◌, arith, ⊎_elim}
 use Rattle.std.proofs.Common.{length-append}
 use Rattle.std.proofs.lemmas.Bool.Decides.{eqb_tells}
 use Rattle.std.proofs.lemmas.List.Sums.{sum_by-cons}
@@ -34,11 +35,13 @@ module _ (lists : ListsShape) (empty : AreEmpty lists) where
 
   taken_zero : (number : ℕ) (route : Route) → slice_get job.routes number ≡ Some route → slice_get lists.taken number ≡ Some 0
   taken_zero number route at =
-      ap (λ (l : List ℕ). slice_get l number) empty.taken ∙ zero_there (length job.routes) number (slice_get_within job.routes number route at)
+      ap (λ (l : List ℕ). slice_get l number) empty.taken ∙ zero_there (length job.routes) number
+      (slice_get_within job.routes number route at)
 
   given_zero : (number : ℕ) (route : Route) → slice_get job.routes number ≡ Some route → slice_get lists.given number ≡ Some 0
   given_zero number route at =
-      ap (λ (l : List ℕ). slice_get l number) empty.given ∙ zero_there (length job.routes) number (slice_get_within job.routes number route at)
+      ap (λ (l : List ℕ). slice_get l number) empty.given ∙ zero_there (length job.routes) number
+      (slice_get_within job.routes number route at)
 
   takes_zero : (stone number : ℕ) → Contains (routes_at job stone) number → taken_on lists (Some stone) number ≡ Some 0
   takes_zero stone number there =
@@ -137,7 +140,8 @@ module _ (cells : Cells) (lists made : ListsShape) (is_made : made ≡ lists) (a
   opens = subst (λ (j : JobShape). AreOpening j cells (length j.sources + length j.stones) actors) (sym of) opening
 
   pub made_rules : HasRules (world_of cells made actors 0)
-  made_rules = subst (λ (l : ListsShape). HasRules (world_of cells l actors 0)) (sym is_made) (opening_rules cells lists actors has empty opens)
+  made_rules = subst (λ (l : ListsShape). HasRules (world_of cells l actors 0)) (sym is_made)
+      (opening_rules cells lists actors has empty opens)
 
   pub made_opening : IsOpeningWorld (world_of cells made actors 0)
   made_opening = subst (λ (l : ListsShape). IsOpeningWorld (world_of cells l actors 0)) (sym is_made)

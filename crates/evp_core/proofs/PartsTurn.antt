@@ -18,7 +18,8 @@ none_rose : Rose 0 0 → ⊥
 none_rose rose = ⊎_elim (λ more. absurd (omega arith)) (λ last. absurd (omega arith)) rose
 
 none_full : (last stone : ℕ) → fulls_at 0 last stone ≡ 0
-none_full last stone = ⊎_elim (λ e. ap (λ (b : Bool). if b then 0 else 0 - 1) e.0) (λ e. ap (λ (b : Bool). if b then 0 else 0 - 1) e.0) (eqb_tells stone last)
+none_full last stone = ⊎_elim (λ e. ap (λ (b : Bool). if b then 0 else 0 - 1) e.0) (λ e. ap (λ (b : Bool). if b then 0 else 0 - 1) e.0)
+    (eqb_tells stone last)
 
 module _ (old new : Reach) (none : old.empties ≡ 0) (no_fulls : old.fulls ≡ 0) (moved : (new ≡ old) ⊎ Moves old new) where
   pub same_own : new.own ≡ old.own
@@ -62,11 +63,13 @@ module _ (old new : Reach) (none : old.empties ≡ 0) (no_fulls : old.fulls ≡ 
       moved
 
   pub turned_so : (job : JobShape) (was now : ActorShape) (turn : Turn) (own : Option ℕ) → old.own ≡ own
-      → HasTurned job (counted (taken old) (given old) (empties old) (fulls old)) (counted (taken new) (given new) (empties new) (fulls new))
+      → HasTurned job (counted (taken old) (given old) (empties old) (fulls old))
+      (counted (taken new) (given new) (empties new) (fulls new))
       was now turn
       → HasTurned job (counts_before old.lists own) (counts_behind old.lists new.lists own) was now turn
   turned_so job was now turn own of turned =
-      let weaker = turned_weaker job (taken old) (taken new) (given old) (given new) (empties old) (empties new) 0 (lacks old.lists old.own)
+      let weaker = turned_weaker job (taken old) (taken new) (given old) (given new) (empties old) (empties new) 0
+      (lacks old.lists old.own)
       (fulls old) (fulls new) (λ _. 0) (λ stone. crowds old.lists stone) empty_rose full_rose was now turn turned in
       subst (λ (o : Option ℕ). HasTurned job (counts_before old.lists o) (counts_behind old.lists new.lists o) was now turn) of
       (subst (λ (o : Option ℕ). HasTurned job (counts_before old.lists old.own)

@@ -34,13 +34,15 @@ module _ (own : Option ℕ) (old new : ListsShape) where
   left_counts stone entry left =
       let more = sum_at (λ (n : ℕ). n) old.taken (route_of entry) (position_of entry) (position_of entry + 1) left.count in
       let one : sum (left_by old stone entry left.others).taken ≡ sum old.taken + 1 = omega arith in
-      ap counted_turns left.is ∙ (let e : sum old.given + 3 * sum (left_by old stone entry left.others).taken ≡ counted_turns old + 3 = omega arith in e)
+      ap counted_turns left.is ∙ (let e : sum old.given + 3 * sum (left_by old stone entry left.others).taken ≡ counted_turns old + 3 =
+      omega arith in e)
 
   joined_counts : (stone : ℕ) (entry : Entry) → OneJoined old new stone entry → counted_turns new ≡ counted_turns old + 1
   joined_counts stone entry joined =
       let more = sum_at (λ (n : ℕ). n) old.given (route_of entry) (position_of entry) (position_of entry + 1) joined.count in
       let one : sum (joined_by old stone entry joined.others).given ≡ sum old.given + 1 = omega arith in
-      ap counted_turns joined.is ∙ (let e : sum (joined_by old stone entry joined.others).given + 3 * sum old.taken ≡ counted_turns old + 1 = omega arith in e)
+      ap counted_turns joined.is ∙ (let e : sum (joined_by old stone entry joined.others).given + 3 * sum old.taken ≡ counted_turns old +
+      1 = omega arith in e)
 
   -- the count never falls
   pub no_fewer : ListsGo own old new → counted_turns old ≤ counted_turns new
@@ -66,7 +68,8 @@ module _ (own : Option ℕ) (old new : ListsShape) where
   taken_more (inr (inl left)) entry more = let e = left_counts left.0 left.2.0 left.2.1 in omega arith
   taken_more (inr (inr joined)) entry more =
       absurd (one_above (position_of entry)
-      (sym more.was ∙ still own joined.0 joined.1 joined.2.others ∙ ap (λ (l : ListsShape). taken_on l own (route_of entry)) (sym joined.2.is)
+      (sym more.was ∙ still own joined.0 joined.1 joined.2.others ∙ ap (λ (l : ListsShape). taken_on l own (route_of entry))
+      (sym joined.2.is)
       ∙ more.here))
     where
       still : (o : Option ℕ) (stone : ℕ) (e : Entry) (others : List Entry)
@@ -161,7 +164,8 @@ module _ (lists after : ListsShape) (own : Option ℕ) (go : ListsGo own lists a
 pub moved_counts : (old new : WorldShape) (number : ℕ) → WorldTurned old new number Moved
     → counted_turns old.lists + due_turns new.actors + 1 ≤ counted_turns new.lists + due_turns old.actors
 moved_counts old new number turned =
-    let falls = role_falls old.lists turned.after (own_of turned.was.role) turned.lists turned.was.role turned.now.role turned.turned.role in
+    let falls = role_falls old.lists turned.after (own_of turned.was.role) turned.lists turned.was.role turned.now.role
+    turned.turned.role in
     let sums = sum_at (λ (a : ActorShape). due_of a.role) old.actors number turned.was turned.now turned.there in
     let lists = ap (λ (w : WorldShape). counted_turns w.lists) turned.is in
     let actors = ap (λ (w : WorldShape). due_turns w.actors) turned.is in

@@ -13,7 +13,8 @@ use Rattle.evp_stone.specs.Flow.{Part}
 use Rattle.evp_stone.specs.JobShape.{JobShape}
 use Rattle.evp_stone.specs.Route.{last_stone}
 use Rattle.evp_stone.specs.State.{StoneWork}
-use Rattle.evp_stone.specs.Turned.{Counted, CountsStay, RoleGoes, StoneGoes, FirstGoes, HandGoes, NextComes, SourceGoes, PartGoes, NoneGoes}
+use Rattle.evp_stone.specs.Turned.{Counted, CountsStay, RoleGoes, StoneGoes, FirstGoes, HandGoes, NextComes, SourceGoes, PartGoes}
+use Rattle.evp_stone.specs.Turned.{NoneGoes}
 use Rattle.evp_stone.proofs.Change.{set_here}
 use Rattle.evp_core.specs.Lists.{ListsShape, HasLists, ListsGo, taken_on, given_on, where_ends, left_by}
 use Rattle.evp_core.specs.Progress.{due_of}
@@ -100,7 +101,8 @@ pub lists_rest : (own : Option ℕ) (old new : ListsShape) → HasLists old → 
 lists_rest own old new has (inl same) stay = same
 lists_rest own old new has (inr (inl (stone, of, (entry, left)))) stay =
     let first = is_first old has stone entry left.others left.was in
-    let ends : (l : ListsShape) → l.job ≡ old.job → taken_on l (Some stone) (route_of entry) ≡ slice_get l.taken (route_of entry) = λ l same.
+    let ends : (l : ListsShape) → l.job ≡ old.job → taken_on l (Some stone) (route_of entry) ≡ slice_get l.taken (route_of entry) =
+    λ l same.
     ap (λ (r : Option Route). where_ends stone r (slice_get l.taken (route_of entry)))
     (ap (λ (j : JobShape). slice_get j.routes (route_of entry)) same ∙ first.leads.there)
     ∙ ap (λ (b : Bool). if b then slice_get l.taken (route_of entry) else None)

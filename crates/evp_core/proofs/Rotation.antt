@@ -1,5 +1,6 @@
 -- A pass of one turn for each actor: one of them moves, or all are closed.
-use Rattle.std.proofs.Common.{◌^◌, ◌≡◌, ◌≢◌, ℕ, ◌+◌, ◌<◌, ◌≤◌, Bool, true, false, length, Some, set, refl, sym, ap, subst, ◌∙◌, arith, ⊎_elim}
+use Rattle.std.proofs.Common.{◌^◌, ◌≡◌, ◌≢◌, ℕ, ◌+◌, ◌<◌, ◌≤◌, Bool, true, false, length, Some, set, refl, sym, ap, subst, ◌∙◌, arith}
+use Rattle.std.proofs.Common.{⊎_elim}
 use Rattle.std.proofs.Math.ListN.{length-set}
 use Rattle.std.proofs.lemmas.Bool.Decides.{eqb_tells}
 use Rattle.std.proofs.lemmas.Option.{same_Some, slice_get_within}
@@ -52,7 +53,8 @@ module _ (old new : WorldShape) (number : ℕ) (turn : Turn) (turned : WorldTurn
       ⊎_elim
       (λ e.
       let is : turned.now ≡ actor = same_Some turned.now actor
-      (sym (set_here old.actors number turned.was turned.now turned.there) ∙ ap (slice_get (set old.actors number turned.now)) (sym e.1) ∙ now_at) in
+      (sym (set_here old.actors number turned.was turned.now turned.there) ∙ ap (slice_get (set old.actors number turned.now)) (sym e.1)
+      ∙ now_at) in
       let now_can : CanMove old.lists turned.now.role = subst (λ (a : ActorShape). CanMove old.lists a.role) (sym is) was_can in
       let could = can_same old.lists turned.was.role turned.now.role rests.1 now_can in
       ⊎_elim moved memory (moves_on old number turned.was turned.there could new turn turned))
@@ -124,7 +126,8 @@ not_memory : Moved ≢ Memory
 not_memory e = cc
 
 -- one more turn, which moved
-pub pass_moved : (start old new : WorldShape) (number : ℕ) (moved : Bool) → InPass start old number moved → WorldTurned old new number Moved
+pub pass_moved : (start old new : WorldShape) (number : ℕ) (moved : Bool) → InPass start old number moved
+    → WorldTurned old new number Moved
     → IsHeld new → InPass start new (number + 1) true
 pass_moved start old new number moved pass turned held =
     let less = moved_left old new number turned held in
@@ -137,7 +140,8 @@ pass_moved start old new number moved pass turned held =
     }
 
 -- one more, which didn't
-pub pass_rests : (start old new : WorldShape) (number : ℕ) (moved : Bool) (turn : Turn) → InPass start old number moved → turn ≢ Moved → turn ≢ Memory
+pub pass_rests : (start old new : WorldShape) (number : ℕ) (moved : Bool) (turn : Turn) → InPass start old number moved → turn ≢ Moved
+    → turn ≢ Memory
     → WorldTurned old new number turn → IsHeld new → InPass start new (number + 1) moved
 pass_rests start old new number moved turn pass rests memory turned held =
     let left = rest_left old new number turn turned held rests in
@@ -157,7 +161,8 @@ not_moved : Memory ≢ Moved
 not_moved e = cc
 
 -- one that found no memory
-pub pass_stops : (start old new : WorldShape) (number : ℕ) (moved : Bool) → InPass start old number moved → WorldTurned old new number Memory
+pub pass_stops : (start old new : WorldShape) (number : ℕ) (moved : Bool) → InPass start old number moved
+    → WorldTurned old new number Memory
     → IsHeld new → number < length start.actors → IsOfSame start new × (new.done ≤ start.done + length start.actors)
 pass_stops start old new number moved pass turned held below = (
   same_on start old new number Memory turned pass.same (rest_left old new number Memory turned held not_moved),

@@ -54,7 +54,8 @@ pub record HasMore (rounds : ℕ) (list : List RouteWork) : Type 0 where
 later_more : (rounds : ℕ) (work : RouteWork) (list : List RouteWork) → HasMore rounds list → HasMore rounds (work ∷ list)
 later_more rounds work list more = record { place = suc more.place; here = more.here; at = more.at; more = more.more }
 
-pub ended_or : (rounds : ℕ) (list : List RouteWork) → AllByRecursion (λ (here : RouteWork). round_in here ≡ rounds) list ⊎ HasMore rounds list
+pub ended_or : (rounds : ℕ) (list : List RouteWork) → AllByRecursion (λ (here : RouteWork). round_in here ≡ rounds) list
+    ⊎ HasMore rounds list
 ended_or rounds [] = inl tt
 ended_or rounds (work ∷ list) =
     ⊎_elim (λ e. ⊎_elim (λ all. inl (e.1, all)) (λ more. inr (later_more rounds work list more)) (ended_or rounds list))
@@ -100,7 +101,12 @@ module _ (world : WorldShape) (rules : HasRules world) (is : IsJob world.lists.j
   next work unended entries at waiting hand =
       ⊎_elim (λ ended. inl (waiting, hand, ended))
       (λ more. taking work unended
-      (record { waiting = waiting; hand = hand; unended = λ ended. more.more (ended_at (length job.rounds) work.routes more.place more.here more.at ended) })
+      (record {
+        waiting = waiting;
+        hand = hand;
+        unended = λ ended. more.more
+            (ended_at (length job.rounds) work.routes more.place more.here more.at ended);
+      })
       entries at)
       (ended_or (length job.rounds) work.routes)
 

@@ -58,7 +58,8 @@ module _ (lists after : ListsShape) (own : Option ℕ) (go : ListsGo own lists a
   joined_room entry more target leads full stone other joined =
       ⊎_elim
       (λ e.
-      let there : stone ≡ target = leads_once job (route_of other) stone target joined.leads (subst (λ (r : ℕ). LeadsTo job r target) e.1 leads) in
+      let there : stone ≡ target = leads_once job (route_of other) stone target joined.leads
+      (subst (λ (r : ℕ). LeadsTo job r target) e.1 leads) in
       let same : full.0 ≡ joined.others =
       same_Some full.0 joined.others (sym full.1 ∙ ap (slice_get lists.lists) (sym there) ∙ joined.was) in
       let long = ap (λ (l : List Entry). length l) same in
@@ -84,7 +85,8 @@ module _ (lists after : ListsShape) (own : Option ℕ) (go : ListsGo own lists a
   not_taken : (way : ListsGo own lists after) (stone : ℕ) → own ≡ Some stone → (entry : Entry)
       → OneMore (taken_on lists (Some stone)) (taken_on after (Some stone)) entry → IsEmpty lists stone → ⊥
   not_taken (inl same) stone of entry more empty =
-      one_above (position_of entry) (sym more.was ∙ ap (λ (l : ListsShape). taken_on l (Some stone) (route_of entry)) (sym same) ∙ more.here)
+      one_above (position_of entry) (sym more.was ∙ ap (λ (l : ListsShape). taken_on l (Some stone) (route_of entry)) (sym same)
+      ∙ more.here)
   not_taken (inr (inl (from, is, (other, left)))) stone of entry more empty =
       let same : from ≡ stone = same_Some from stone (sym is ∙ of) in
       no_entry other left.others (sym empty ∙ ap (slice_get lists.lists) (sym same) ∙ left.was)
@@ -92,7 +94,8 @@ module _ (lists after : ListsShape) (own : Option ℕ) (go : ListsGo own lists a
       no_entry : (e : Entry) (others : List Entry) → Some [] ≡ Some (e ∷ others) → ⊥
       no_entry e others same = cc
   not_taken (inr (inr (target, other, joined))) stone of entry more empty =
-      one_above (position_of entry) (sym more.was ∙ ap (λ (l : ListsShape). taken_on l (Some stone) (route_of entry)) (sym joined.is) ∙ more.here)
+      one_above (position_of entry) (sym more.was ∙ ap (λ (l : ListsShape). taken_on l (Some stone) (route_of entry)) (sym joined.is)
+      ∙ more.here)
 
   -- a source's next part
   part_blocked : (old new : SourceWork) (part : Part) (turn : Turn) (target : ℕ) → LeadsTo job old.route target → IsFull lists target
@@ -124,11 +127,16 @@ module _ (lists after : ListsShape) (own : Option ℕ) (go : ListsGo own lists a
   source_blocked old new [] target is goes = absurd goes
   source_blocked old new (part ∷ parts) target is goes = (((part, parts, is), goes.0.leads), full_room old.route target goes.0)
 
-  source_tells : (old new : SourceWork) (turn : Turn) → SourceGoes job before behind old new (to_come job old) turn → Tells lists (feeds old) turn
+  source_tells : (old new : SourceWork) (turn : Turn) → SourceGoes job before behind old new (to_come job old) turn
+      → Tells lists (feeds old) turn
   source_tells old new turn goes = record {
-    idle = (λ is. source_idle old new (to_come job old) (subst (SourceGoes job before behind old new (to_come job old)) is goes), λ none. absurd none);
+    idle = (
+      λ is. source_idle old new (to_come job old) (subst (SourceGoes job before behind old new (to_come job old)) is goes),
+      λ none. absurd none,
+    );
     closed = (
-      λ is. (found_closed job before behind (feeds old) (feeds new) (subst (SourceGoes job before behind old new (to_come job old)) is goes)).0,
+      λ is. (found_closed job before behind (feeds old) (feeds new)
+          (subst (SourceGoes job before behind old new (to_come job old)) is goes)).0,
       λ none. none_closed old new turn (subst (λ (l : List Part). SourceGoes job before behind old new l turn) none goes),
     );
     blocked = λ memory target. (
@@ -138,7 +146,8 @@ module _ (lists after : ListsShape) (own : Option ℕ) (go : ListsGo own lists a
     );
   }
 
-  first_blocked : (old new : StoneWork) (entry : Entry) (others : List Entry) (turn : Turn) (target : ℕ) → LeadsTo job (route_of entry) target
+  first_blocked : (old new : StoneWork) (entry : Entry) (others : List Entry) (turn : Turn) (target : ℕ)
+      → LeadsTo job (route_of entry) target
       → IsFull lists target → turn ≢ Memory → FirstGoes job before behind old new entry others turn → turn ≡ Blocked target
   first_blocked old new entry others Moved target leads full memory goes = absurd (not_given go entry goes.0.given target leads full)
   first_blocked old new entry others Idle target leads full memory goes = absurd goes

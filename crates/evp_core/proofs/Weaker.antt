@@ -10,11 +10,13 @@ use Rattle.evp_stone.specs.Flow.{Part}
 use Rattle.evp_stone.specs.JobShape.{JobShape}
 use Rattle.evp_stone.specs.Port.{Counting, Rose}
 use Rattle.evp_stone.specs.State.{StoneWork}
-use Rattle.evp_stone.specs.Turned.{Counted, counted, CountsStay, OneGiven, OneTaken, NoRoom, RoleGoes, StoneGoes, FirstGoes, HandGoes, NextComes, SourceGoes}
+use Rattle.evp_stone.specs.Turned.{Counted, counted, CountsStay, OneGiven, OneTaken, NoRoom, RoleGoes, StoneGoes, FirstGoes, HandGoes}
+use Rattle.evp_stone.specs.Turned.{NextComes, SourceGoes}
 use Rattle.evp_stone.specs.Turned.{PartGoes, NoneGoes, HasTurned}
 
 module _ (job : JobShape) (taken now given later : Counting) (empties most none some : ℕ) (fulls all few many : ℕ → ℕ)
-    (empty : Rose empties most → Rose none some) (full : (stone : ℕ) → Rose (fulls stone) (all stone) → Rose (few stone) (many stone)) where
+    (empty : Rose empties most → Rose none some) (full : (stone : ℕ) → Rose (fulls stone) (all stone)
+    → Rose (few stone) (many stone)) where
   abbrev before : Counted
   before = counted taken given empties fulls
 
@@ -94,7 +96,8 @@ module _ (job : JobShape) (taken now given later : Counting) (empties most none 
   role (works old unended) (feeds new) turn goes = absurd goes
   role (works old unended) (works new still) turn goes = stone old new old.waiting old.hand turn goes
 
-  pub turned_weaker : (old new : ActorShape) (turn : Turn) → HasTurned job before after old new turn → HasTurned job first last old new turn
+  pub turned_weaker : (old new : ActorShape) (turn : Turn) → HasTurned job before after old new turn
+      → HasTurned job first last old new turn
   turned_weaker old new turn turned = record {
     role = role old.role new.role turn turned.role;
     known = turned.known;

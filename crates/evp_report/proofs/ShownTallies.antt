@@ -94,7 +94,8 @@ pub told_none : (job : JobShape) (number round : ℕ) (route : Route) → slice_
     → HasNoRound job number round → told_in round (told_of job route) ≡ []
 told_none job number round route there lacks =
     ap (λ (t : Option Tally). lines_in t (route_name job route))
-    (ap (λ (r : Route). slice_get (accounts_of job r) round) (sym (same_route job number route lacks.route there lacks.there)) ∙ lacks.none)
+    (ap (λ (r : Route). slice_get (accounts_of job r) round) (sym (same_route job number route lacks.route there lacks.there))
+    ∙ lacks.none)
 
 -- in a round the lines of a route are those of its account
 pub told_some : (job : JobShape) (number round : ℕ) (route : Route) (account : RoundAccount) → slice_get job.routes number ≡ Some route

@@ -63,7 +63,8 @@ module _ (job : JobShape) (taken given : Counting) (hand : Option Entry) (here :
       let old : Outlet = found.old in
       let before = was.sent position old found.there in
       let waits : Found (IsOf sending) goes (goes (0 + position)) old (entries_of route_of old.route waiting) =
-      one_lined (IsOf sending) goes 0 position here.outlets waiting old (outlets_apart job taken given hand [] here was) lined found.there in
+      one_lined (IsOf sending) goes 0 position here.outlets waiting old (outlets_apart job taken given hand [] here was) lined
+      found.there in
       let zero_is : 0 + position ≡ position = omega arith in
       let Sent : Outlet → Type 0 = λ (o : Outlet).
       HasSent job given waiting was.route round (was.done ++ c ∷ []) position o in
@@ -191,7 +192,8 @@ module _ (job : JobShape) (taken given : Counting) (entry : Entry) (here : Route
       let before = held_before job was.route its_round in
       let works : Works true (before ++ was.new) was.done was.kept =
       subst (λ (b : Bool). Works b (before ++ was.new) was.done was.kept) frozen was.works in
-      let front = front_record (arrivals job was.route) was.handled its_round was.new holds.later holds.c holds.there (sym was.came.long) in
+      let front = front_record (arrivals job was.route) was.handled its_round was.new holds.later holds.c holds.there
+      (sym was.came.long) in
       record {
         route = was.route;
         there = was.there;
@@ -227,7 +229,8 @@ module _ (job : JobShape) (taken given : Counting) (entry : Entry) (here : Route
       (subst (λ l. AllZip (IsReceived job.formats) l was.kept) empty was.stored) in
       let works = thawed_works job taken given (Some entry) here was ends [] none thawed in
       let next = next_of_new job taken given (Some entry) here was ends holds.c holds.later none thawed holds.there in
-      let front = front_record (arrivals job was.route) was.handled its_round was.new holds.later holds.c holds.there (sym was.came.long) in
+      let front = front_record (arrivals job was.route) was.handled its_round was.new holds.later holds.c holds.there
+      (sym was.came.long) in
       record {
         route = was.route;
         there = was.there;
@@ -260,7 +263,8 @@ module _ (job : JobShape) (taken given : Counting) (entry : Entry) (here : Route
   end_sent done kept waiting is there lined position outlet at =
       let found : Was everywhere 0 position here.outlets outlet = was_outlet everywhere 0 position here.outlets outlet at in
       let old : Outlet = found.old in
-      let before = subst (λ (l : List Carried). HasSent job given [] was.route its_round l position old) is (was.sent position old found.there) in
+      let before = subst (λ (l : List Carried). HasSent job given [] was.route its_round l position old) is
+      (was.sent position old found.there) in
       let one = one_lined (IsOf (an_end its_round)) everywhere 0 position here.outlets waiting old
       (outlets_apart job taken given (Some entry) [] here was) lined found.there in
       subst (λ (o : Outlet). HasSent job given waiting was.route (its_round + 1) [] position o) (sym found.how)

@@ -76,7 +76,8 @@ learned job number its owned cells spare old new before after there formats same
   keeps = subst (λ (f : List Layout). Keeps cells f old new) same keeps;
   asks = λ c that.
       let value : HasValue formats owned c.value =
-      subst (λ (f : List Layout). HasValue f owned c.value) (sym same) (record { layout = that.layout; there = that.there; viewed = that.viewed }) in
+      subst (λ (f : List Layout). HasValue f owned c.value) (sym same)
+      (record { layout = that.layout; there = that.there; viewed = that.viewed }) in
       let pairs : pairs_of formats job.limit its.action owned.format c.value ≡ pairs_by job (slice_get job.stones number) c =
       ap (λ (f : List Layout). pairs_of f job.limit its.action owned.format c.value) same
       ∙ ap (λ (n : ℕ). pairs_of job.formats job.limit its.action n c.value) that.format

@@ -115,4 +115,5 @@ none_along job source positions number route at not before k below along =
 pub element_at : (read listed : List Route) (number : ℕ) (route : Route) → read ≡ listed → number < length read
     → route ≡ get_or read number route → slice_get listed number ≡ Some route
 element_at read listed number route same within is =
-    ap (λ (l : List Route). slice_get l number) (sym same) ∙ slice_get-get_or read number route within ∙ ap (λ (r : Route). Some r) (sym is)
+    ap (λ (l : List Route). slice_get l number) (sym same) ∙ slice_get-get_or read number route within
+    ∙ ap (λ (r : Route). Some r) (sym is)

@@ -36,7 +36,8 @@ pub record ActsIn (job : JobShape) (stone : ℕ) (c : Carried) : Type 0 where
   pub acted : Contains (done_of job route) c
 
 -- the record on which a route's last stone acts next is one of all those on which it acts
-pub acts_in : (job : JobShape) (route : Route) (round : ℕ) (done : List Carried) (c : Carried) → ActsNext (rounds_of job route) round done c
+pub acts_in : (job : JobShape) (route : Route) (round : ℕ) (done : List Carried) (c : Carried)
+    → ActsNext (rounds_of job route) round done c
     → Contains (done_of job route) c
 acts_in job route round done c next =
     in_piece (λ (r : Worked). r.done) (rounds_of job route) round next.worked c next.there

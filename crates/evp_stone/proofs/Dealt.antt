@@ -30,7 +30,8 @@ module _ (job : JobShape) (stone : ℕ) (here new : RouteWork) where
       → IsDealt job stone true here new waiting (Mark route position round) result
       → IsDealt job stone false here new waiting (Mark route position round) result
   mark_new route position round waiting (Ok hand) none dealt =
-      subst (λ (l : List Received). Deals job (alone stone [] (Some (Mark route position round)) here) (alone stone waiting hand new) 0 here
+      subst (λ (l : List Received). Deals job (alone stone [] (Some (Mark route position round)) here)
+      (alone stone waiting hand new) 0 here
       false l (Mark route position round)) (sym none) dealt
   mark_new route position round waiting (Err back) none dealt = dealt
 
@@ -58,7 +59,8 @@ module _ (job : JobShape) (stone : ℕ) (here before : RouteWork) (received : Re
   pub first_dealt : (entry : Entry) (new : RouteWork) → IsActedOn job stone (emptied here) before received waiting
       → new ≡ keeping_all before others → IsDealt job stone false here new waiting entry (Ok (Some entry))
   first_dealt entry new acted is =
-      subst (λ (l : List Received). Deals job (alone stone [] (Some entry) here) (alone stone waiting (Some entry) new) 0 here false l entry)
+      subst (λ (l : List Received). Deals job (alone stone [] (Some entry) here) (alone stone waiting (Some entry) new) 0 here false
+      l entry)
       (sym first)
       (record {
         waiting = waiting;

@@ -37,7 +37,8 @@ module _ (job : JobShape) (is_job : IsJob job) (taken given : Counting) (old : S
   abbrev its_ends : HasEnds work.route
   its_ends = ends job is_job taken given old state none entry in_it place here at on
 
-  due_next : (owned : OwnedBytes) (c : Carried) → IsThat job.formats owned c → ActsNext (rounds_of job work.route) (round_in here) work.done c
+  due_next : (owned : OwnedBytes) (c : Carried) → IsThat job.formats owned c
+      → ActsNext (rounds_of job work.route) (round_in here) work.done c
       → IsDue job old.stone owned
   due_next owned c that next = record {
     c = c;
@@ -55,7 +56,8 @@ module _ (job : JobShape) (is_job : IsJob job) (taken given : Counting) (old : S
   pub kept_due : (received : Received) (rest : List Received) → here.kept ≡ received ∷ rest → IsDue job old.stone (arc_value received.1)
   kept_due received rest kept =
       let first : KeptFirst job received rest work.kept =
-      kept_first job received rest work.kept (subst (λ (l : List Received). AllZip (IsReceived job.formats) l work.kept) kept work.stored) in
+      kept_first job received rest work.kept (subst (λ (l : List Received). AllZip (IsReceived job.formats) l work.kept) kept
+      work.stored) in
       let later = later_of job is_job taken given old state none entry in_it place here at on entry refl in
       due_next (arc_value received.1) first.c first.that.1
       (next_of_kept job taken given (Some entry) here work its_ends first.c first.others later.0 first.is
@@ -68,5 +70,6 @@ module _ (job : JobShape) (is_job : IsJob job) (taken given : Counting) (old : S
       let holds = holds_of job is_job taken given old state none entry in_it place here at on number position index owned is in
       due_next (arc_value owned) holds.c holds.that
       (next_of_new job taken given (Some entry) here work its_ends holds.c holds.later
-      (none_stored (IsReceived job.formats) work.kept (subst (λ (l : List Received). AllZip (IsReceived job.formats) l work.kept) kept work.stored))
+      (none_stored (IsReceived job.formats) work.kept (subst (λ (l : List Received). AllZip (IsReceived job.formats) l work.kept) kept
+      work.stored))
       (frozen_is job is_job taken given old state none entry in_it place here at on false thawed) holds.there)

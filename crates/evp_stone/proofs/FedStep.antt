@@ -129,7 +129,8 @@ there_is xs k below =
 first_source : (graph : Shape) (route : Route) → IsRoute graph route → route.source < length graph.sources
 first_source graph route is = visits graph route.source route.positions route.stones is
   where
-    visits : (graph : Shape) (source : ℕ) (positions stones : List ℕ) → Visits graph source positions stones → source < length graph.sources
+    visits : (graph : Shape) (source : ℕ) (positions stones : List ℕ) → Visits graph source positions stones
+        → source < length graph.sources
     visits graph source positions [] v = absurd v
     visits graph source positions (first ∷ others) v = slice_get_within graph.sources source first v.0
 

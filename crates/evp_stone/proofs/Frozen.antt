@@ -9,7 +9,8 @@ use Rattle.evp_stone.specs.Route.{last_of}
 
 pub any_among : (number : ℕ) (numbers : List ℕ) → list_any (λ n. n == number) numbers ≡ is_among number numbers
 any_among number [] = refl
-any_among number (n ∷ numbers) = either (n == number) (list_any (λ m. m == number) numbers) (is_among number numbers) (any_among number numbers)
+any_among number (n ∷ numbers) = either (n == number) (list_any (λ m. m == number) numbers) (is_among number numbers)
+    (any_among number numbers)
   where
     either : (b x y : Bool) → x ≡ y → (b || x) ≡ (if b then true else y)
     either true x y same = refl

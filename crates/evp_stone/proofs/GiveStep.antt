@@ -26,7 +26,8 @@ module _ (job : JobShape) (given later : Counting) (entry : Entry) (rest : List 
       ⊎_elim (λ e.
       let so_far : was.so_far ≡ position_of entry =
       some_same was.so_far (position_of entry) (sym was.count ∙ ap given e.1 ∙ more.was) in
-      let fewer = carries_fewer route_of position_of flow stands_for job outlet.route was.so_far outlet.lined rest entry was.waits (sym e.1) in
+      let fewer = carries_fewer route_of position_of flow stands_for job outlet.route was.so_far outlet.lined rest entry was.waits
+      (sym e.1) in
       record {
         longer = was.longer;
         there = was.there;
@@ -76,7 +77,8 @@ may_go_at : (job : JobShape) (given : Counting) (route : Route) (round : ℕ) (d
     (entry : Entry) (rest : List Entry) → HasSent job given (entry ∷ rest) route round done position outlet → outlet.route ≡ route_of entry
     → MayGo job given entry
 may_go_at job given route round done position outlet entry rest was is =
-    let first = carries_fewer route_of position_of flow stands_for job outlet.route was.so_far outlet.lined rest entry was.waits (sym is) in
+    let first = carries_fewer route_of position_of flow stands_for job outlet.route was.so_far outlet.lined rest entry was.waits
+    (sym is) in
     record {
       longer = was.longer;
       there = ap (slice_get job.routes) (sym is) ∙ was.there;

@@ -76,7 +76,8 @@ module _ (job : JobShape) (is_job : IsJob job) (old : StoneWork) (entry : Entry)
     learnt true kept e frozen keeps is learns = nothing_learnt learns
     learnt false (received ∷ rest) e thawed keeps is learns =
         learnt_of (arc_value received.1)
-        (kept_due job is_job holds.taken holds.given (holding old entry) holds.state none entry refl place here at on thawed received rest keeps)
+        (kept_due job is_job holds.taken holds.given (holding old entry) holds.state none entry refl place here at on thawed received
+        rest keeps)
         learns
     learnt false [] (Item number position index owned) thawed keeps is learns =
         learnt_of (arc_value owned)

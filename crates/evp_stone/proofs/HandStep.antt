@@ -64,14 +64,16 @@ module _ (job : JobShape) (taken given : Counting) (waiting : List Entry) (work 
   held_next was stands = next_part (arrivals job was.route) was.handled (round_in work) was.new stands.part was.came stands.there
 
 -- an item is a record of the round
-pub record HoldsItem (job : JobShape) (route : Route) (round count : ℕ) (new : List Carried) (index : ℕ) (owned : Arc OwnedBytes Global) : Type 0 where
+pub record HoldsItem (job : JobShape) (route : Route) (round count : ℕ) (new : List Carried) (index : ℕ)
+    (owned : Arc OwnedBytes Global) : Type 0 where
   pub c : Carried
   pub later : List Carried
   pub index_is : index ≡ c.index
   pub that : IsThat job.formats (arc_value owned) c
   pub there : slice_get (arrivals job route) round ≡ Some (new ++ c ∷ later)
 
-pub holds_item : (job : JobShape) (route : Route) (round count : ℕ) (new : List Carried) (number position index : ℕ) (owned : Arc OwnedBytes Global)
+pub holds_item : (job : JobShape) (route : Route) (round count : ℕ) (new : List Carried) (number position index : ℕ)
+    (owned : Arc OwnedBytes Global)
     (part : Part) → StandsForPart job.formats (Item number position index owned) part → Next (arrivals job route) 0 round new part
     → HoldsItem job route round count new index owned
 holds_item job route round count new number position index owned (item c) stands next =

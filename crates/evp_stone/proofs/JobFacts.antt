@@ -24,7 +24,8 @@ module _ (job : JobShape) (is : IsJob job) where
 
 module _ (job : JobShape) (route : Route) (ends : HasEnds route) where
   pub length-arrive : length (arrivals job route) ≡ length job.rounds
-  length-arrive = length-arrivals _ (freezes_of job) (length job.rounds) (each job route ends) (steps_of route) _ (length-came job route ends)
+  length-arrive = length-arrivals _ (freezes_of job) (length job.rounds) (each job route ends) (steps_of route) _
+      (length-came job route ends)
 
   -- a round of a route's last stone, by what comes in it
   pub round_there : (round : ℕ) (came : List Carried) → slice_get (arrivals job route) round ≡ Some came

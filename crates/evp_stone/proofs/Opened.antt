@@ -68,7 +68,8 @@ module _ (job : JobShape) (stone unended : ℕ) (routes : List RouteWork) (taken
             (record { number = number; route = route; there = there; last = last; position = position; goes_on = unused.goes_on });
         waits = subst (λ (n : ℕ). Carries route_of position_of flow stands_for job outlet.route 0 n []) (sym unused.none)
             (record { behind = omega arith; within = omega arith; stand = tt });
-        lined = subst (λ (n : ℕ). IsFront (flow_of job longer) n []) (sym unused.none) (none_first (flow_of job longer) (arrivals job longer));
+        lined = subst (λ (n : ℕ). IsFront (flow_of job longer) n []) (sym unused.none)
+            (none_first (flow_of job longer) (arrivals job longer));
       }
 
   has_worked : (place : ℕ) (here : RouteWork) → numbers_of routes ≡ routes_at job stone → slice_get routes place ≡ Some here
@@ -96,7 +97,8 @@ module _ (job : JobShape) (stone unended : ℕ) (routes : List RouteWork) (taken
         ended = tt;
         running = record { passed = refl; dropped = refl; refused = refl; arrived = tt };
         outlets = starts.outlets.count;
-        sent = λ position outlet is. sent_none here.route route starts.there starts.last position outlet (starts.outlets.each position outlet is);
+        sent = λ position outlet is. sent_none here.route route starts.there starts.last position outlet
+            (starts.outlets.each position outlet is);
       })
 
   is_among : (number : ℕ) → numbers_of routes ≡ routes_at job stone → Contains (routes_at job stone) number → IsAmong routes number

@@ -111,7 +111,8 @@ module _ (job : JobShape) (is : IsJob job) (taken given : Counting) (hand : Opti
       let act = act_of job in
       let stone = last_stone was.route in
       let passed = sum_short (λ (c : Carried). one_passed (outcome_of act stone c)) (λ c. one_or_none (outcome_of act stone c)) was.done in
-      let dropped' = sum_short (λ (c : Carried). one_dropped (outcome_of act stone c)) (λ c. drop_or_none (outcome_of act stone c)) was.done in
+      let dropped' = sum_short (λ (c : Carried). one_dropped (outcome_of act stone c)) (λ c. drop_or_none (outcome_of act stone c))
+      was.done in
       let all = few in
       let kept = same_length (IsReceived job.formats) work.kept was.kept was.stored in
       record {

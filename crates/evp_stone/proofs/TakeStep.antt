@@ -17,7 +17,8 @@ pub stayed : (job : JobShape) (taken now given later : Counting) (work : StoneWo
     → HasState job taken given work → HasState job now later work
 stayed job taken now given later work takes gives = state_as job taken now given later takes work 0 (λ number route there on. gives number)
 
-module _ (job : JobShape) (taken now given later : Counting) (entry : Entry) (more : OneMore taken now entry) (same : AreSame given later) where
+module _ (job : JobShape) (taken now given later : Counting) (entry : Entry) (more : OneMore taken now entry)
+    (same : AreSame given later) where
   one_in_hand : (route handled : ℕ) → taken route ≡ Some (handled + 0) → now route ≡ Some (handled + in_hand route (Some entry))
   one_in_hand route handled was =
       ⊎_elim (λ e. ap now e.1 ∙ more.here
@@ -53,6 +54,7 @@ module _ (job : JobShape) (taken now given later : Counting) (entry : Entry) (mo
             work_as job taken now given later old.hand (Some entry) old.waiting old.waiting here was
             (one_in_hand here.route was.handled
             (was.count ∙ ap (λ (h : Option Entry). Some (was.handled + in_hand here.route h)) none))
-            (λ position outlet on. sent_as job given later old.waiting was.route (round_in here) was.done position outlet (same outlet.route)
+            (λ position outlet on. sent_as job given later old.waiting was.route (round_in here) was.done position outlet
+            (same outlet.route)
             (was.sent position outlet on));
       })

@@ -88,7 +88,8 @@ module _ (job : JobShape) (is_job : IsJob job) (taken given : Counting) (old : S
       → HasState job taken given (turned old [] None place (keeping here (index, owned)))
   turn_keeps number position index owned is frozen =
       let holds = holds_of number position index owned is in
-      changed job taken given old state none (routes_apart job is_job) place here (keeping here (index, owned)) at never (IsOf (an_end 0)) []
+      changed job taken given old state none (routes_apart job is_job) place here (keeping here (index, owned)) at never
+      (IsOf (an_end 0)) []
       (record { route = refl; outlets = lengthened-never 0 here.outlets; waits = lined-never (IsOf (an_end 0)) 0 here.outlets })
       None empties others
       (keeps job taken given entry here was ends on index owned holds (frozen_is true frozen))
@@ -127,7 +128,8 @@ module _ (job : JobShape) (is_job : IsJob job) (taken given : Counting) (old : S
       kept_first job received rest was.kept (subst (λ (l : List Received). AllZip (IsReceived job.formats) l was.kept) kept was.stored) in
       let acted = as_last next.waiting next.outlets next.running first.c (next.acts first.c first.that) in
       let later = later_of entry refl in
-      let made = acts_kept job taken given (Some entry) here was ends first.c acted.goes acted.sending next.waiting rest first.others later.0 next.running
+      let made = acts_kept job taken given (Some entry) here was ends first.c acted.goes acted.sending next.waiting rest first.others
+      later.0 next.running
       first.is first.stored (frozen_is false thawed) later.1 acted.counts acted.delivers acted.waits in
       subst (HasState job taken given) (sym next.is)
       (changed job taken given old state none (routes_apart job is_job) place here (acted_on here next.outlets rest next.running) at

@@ -66,7 +66,8 @@ none_unended_all : (rounds : ℕ) (works : List RouteWork) → count_unended rou
 none_unended_all rounds [] none = tt
 none_unended_all rounds (w ∷ works) none =
     ⊎_elim (λ e. (e.1, none_unended_all rounds works (omega arith)))
-    (λ e. let one : one_unended rounds w ≡ 1 = ap (λ (b : Bool). if b then 0 else 1) (ne_eqb (round_in w) rounds e.1) in absurd (omega arith))
+    (λ e. let one : one_unended rounds w ≡ 1 = ap (λ (b : Bool). if b then 0 else 1) (ne_eqb (round_in w) rounds e.1) in
+    absurd (omega arith))
     (eqb_tells (round_in w) rounds)
 
 all_none_unended : (rounds : ℕ) (works : List RouteWork) → AllEnded rounds works → count_unended rounds works ≡ 0

@@ -13,9 +13,12 @@ returns-in_err-made c =
     let owned = arc_value c.args.item.now in
     let p = err_from_is_err_and c.from_residual.result c.from_residual.ensures.1 in
     rw (p.1, p.2)
-    (by_one conv.cache.now conv.formats.now owned (filters conv.formats.now conv.limit c.args.format c.args.test.now owned.format) c.args.format (λ value. []) c.args.pass.now c.convert.new.known
-    c.args.builds.now c.convert.new.builds (Err c.in_err-made.field-0.0) c.in_err-made.ensures.kept c.in_err-made.ensures.asked c.in_err-made.ensures.builds
-    (λ value has. refused_at conv.formats.now owned.format c.args.format conv.limit value _ c.in_err-made.field-0.0 (c.in_err-made.ensures.cause value has)))
+    (by_one conv.cache.now conv.formats.now owned (filters conv.formats.now conv.limit c.args.format c.args.test.now owned.format)
+    c.args.format (λ value. []) c.args.pass.now c.convert.new.known
+    c.args.builds.now c.convert.new.builds (Err c.in_err-made.field-0.0) c.in_err-made.ensures.kept c.in_err-made.ensures.asked
+    c.in_err-made.ensures.builds
+    (λ value has. refused_at conv.formats.now owned.format c.args.format conv.limit value _ c.in_err-made.field-0.0
+    (c.in_err-made.ensures.cause value has)))
 
 pub filtered-requires-clause-bound : goal.filtered-requires-clause-bound
 filtered-requires-clause-bound c =
@@ -28,14 +31,18 @@ filtered-requires-clause-has c =
     let formats = c.args.converter.now.formats.now in
     let v = valued formats (arc_value c.args.item.now) c.requires.has in
     let is = c.in_ok-made.ensures.made v.value v.has in
-    into_known formats (arc_value c.in_ok-made.made) is.value_made (into_value formats _ c.args.format c.args.converter.now.limit v.value (arc_value c.in_ok-made.made) is)
+    into_known formats (arc_value c.in_ok-made.made) is.value_made
+    (into_value formats _ c.args.format c.args.converter.now.limit v.value (arc_value c.in_ok-made.made) is)
 
 pub returns : goal.returns
 returns c =
     let conv = c.args.converter.now in
     let owned = arc_value c.args.item.now in
     let made = arc_value c.in_ok-made.made in
-    by_one conv.cache.now conv.formats.now owned (filters conv.formats.now conv.limit c.args.format c.args.test.now owned.format) c.args.format (λ value. []) c.args.pass.now c.convert.new.known
-    c.args.builds.now c.convert.new.builds (Ok c.filtered.result) c.in_ok-made.ensures.kept c.in_ok-made.ensures.asked c.in_ok-made.ensures.builds
+    by_one conv.cache.now conv.formats.now owned (filters conv.formats.now conv.limit c.args.format c.args.test.now owned.format)
+    c.args.format (λ value. []) c.args.pass.now c.convert.new.known
+    c.args.builds.now c.convert.new.builds (Ok c.filtered.result) c.in_ok-made.ensures.kept c.in_ok-made.ensures.asked
+    c.in_ok-made.ensures.builds
     (λ value has. done_with conv.formats.now owned.format c.args.format conv.limit value made
-    (λ (n : ℕ) (m : Datum). then_number None (value_over c.args.test.now.tree m) (filtered n m)) c.filtered.result (c.in_ok-made.ensures.made value has) c.filtered.ensures)
+    (λ (n : ℕ) (m : Datum). then_number None (value_over c.args.test.now.tree m) (filtered n m)) c.filtered.result
+    (c.in_ok-made.ensures.made value has) c.filtered.ensures)

@@ -15,15 +15,20 @@ returns-in_err-made c =
     let owned = arc_value c.args.item.now in
     let p = err_from_is_err_and c.from_residual.result c.from_residual.ensures.1 in
     rw (p.1, p.2)
-    (by_one conv.cache.now conv.formats.now owned (receives conv.formats.now conv.limit c.args.format owned.format) c.args.format (λ value. []) c.args.pass.now c.convert.new.known
-    c.args.builds.now c.convert.new.builds (Err c.in_err-made.field-0.0) c.in_err-made.ensures.kept c.in_err-made.ensures.asked c.in_err-made.ensures.builds
-    (λ value has. refused_at conv.formats.now owned.format c.args.format conv.limit value _ c.in_err-made.field-0.0 (c.in_err-made.ensures.cause value has)))
+    (by_one conv.cache.now conv.formats.now owned (receives conv.formats.now conv.limit c.args.format owned.format) c.args.format
+    (λ value. []) c.args.pass.now c.convert.new.known
+    c.args.builds.now c.convert.new.builds (Err c.in_err-made.field-0.0) c.in_err-made.ensures.kept c.in_err-made.ensures.asked
+    c.in_err-made.ensures.builds
+    (λ value has. refused_at conv.formats.now owned.format c.args.format conv.limit value _ c.in_err-made.field-0.0
+    (c.in_err-made.ensures.cause value has)))
 
 pub returns : goal.returns
 returns c =
     let conv = c.args.converter.now in
     let owned = arc_value c.args.item.now in
     let made = arc_value c.in_ok-made.made in
-    by_one conv.cache.now conv.formats.now owned (receives conv.formats.now conv.limit c.args.format owned.format) c.args.format (λ value. []) c.args.pass.now c.convert.new.known
-    c.args.builds.now c.convert.new.builds (Ok (Arrived c.in_ok-made.made)) c.in_ok-made.ensures.kept c.in_ok-made.ensures.asked c.in_ok-made.ensures.builds
+    by_one conv.cache.now conv.formats.now owned (receives conv.formats.now conv.limit c.args.format owned.format) c.args.format
+    (λ value. []) c.args.pass.now c.convert.new.known
+    c.args.builds.now c.convert.new.builds (Ok (Arrived c.in_ok-made.made)) c.in_ok-made.ensures.kept c.in_ok-made.ensures.asked
+    c.in_ok-made.ensures.builds
     (λ value has. comes conv.formats.now owned.format c.args.format conv.limit value made arrived (c.in_ok-made.ensures.made value has))

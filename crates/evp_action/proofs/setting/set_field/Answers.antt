@@ -14,7 +14,8 @@ use Rattle.evp_record.specs.Record.{Record, value_of}
 use Rattle.evp_action.proofs.setting.set_field.Goals as goal
 
 pub holds-requires : goal.holds-requires
-holds-requires c = sized_at c.args.receiver.now _ c.args.setting.now.field c.field-field.result.now c.types.ensures.laid c.field-field.ensures.value
+holds-requires c = sized_at c.args.receiver.now _ c.args.setting.now.field c.field-field.result.now c.types.ensures.laid
+    c.field-field.ensures.value
 
 pub returns-then-not-holds-clause-cause : goal.returns-then-not-holds-clause-cause
 returns-then-not-holds-clause-cause c = λ fields packed.
@@ -25,7 +26,8 @@ returns-then-not-holds-clause-cause c = λ fields packed.
     let fits : SFits w128 n = search rules in
     let at : IsAt into setting (value_of c.args.item.now) n field = record {
       read = c.in-Ok.ensures ∙ ap (λ (held : Record). value_over setting.value.tree (value_of held)) c.copy.ensures;
-      there = subst (λ (types : List RecordType). field_at into (length types - 1) setting.field ≡ Some field) c.types.ensures.value c.field-field.ensures.value;
+      there = subst (λ (types : List RecordType). field_at into (length types - 1) setting.field ≡ Some field) c.types.ensures.value
+          c.field-field.ensures.value;
     } in
     is_unfit into c.args.k setting (value_of c.args.item.now) n field fields c.from_steps-path.result at c.requires.can.settable
     (λ within. false≢true (sym c.if-not-holds.true
@@ -36,7 +38,8 @@ pub store-requires-clause-fits : goal.store-requires-clause-fits
 store-requires-clause-fits c =
     let into = c.args.receiver.now in
     let field = c.field-field.result.now in
-    let there = subst (λ (types : List RecordType). field_at into (length types - 1) c.args.setting.now.field ≡ Some field) c.types.ensures.value
+    let there = subst (λ (types : List RecordType). field_at into (length types - 1) c.args.setting.now.field ≡ Some field)
+    c.types.ensures.value
     c.field-field.ensures.value in
     fits_at into c.args.setting.now.field _ field there (c.holds.ensures.0 c.if-not-holds.false)
 
@@ -50,7 +53,8 @@ returns-clause-set c = λ fields packed.
     let same = to_z-of_z w128 n fits in
     let at : IsAt into setting (value_of c.args.item.now) n field = record {
       read = c.in-Ok.ensures ∙ ap (λ (held : Record). value_over setting.value.tree (value_of held)) c.copy.ensures;
-      there = subst (λ (types : List RecordType). field_at into (length types - 1) setting.field ≡ Some field) c.types.ensures.value c.field-field.ensures.value;
+      there = subst (λ (types : List RecordType). field_at into (length types - 1) setting.field ≡ Some field) c.types.ensures.value
+          c.field-field.ensures.value;
     } in
     is_set into c.args.k setting (value_of c.args.item.now) n field fields c.store.new.bytes at c.requires.can.settable
     (subst (λ (z : ℤ). IsNumberIn field.base field.size z) same (c.holds.ensures.0 c.if-not-holds.false))

@@ -15,7 +15,8 @@ pub loop-k-preserved : goal.loop-k-preserved
 loop-k-preserved c =
     let value = value_of c.args.item.now in
     record {
-      packed = still_packed c.args.receiver.now c.loop-k.k c.index-set-k.result value c.loop-k.bytes c.set_field.new.bytes c.loop-k.invariant.packed c.in_ok-set_field.ensures.set;
+      packed = still_packed c.args.receiver.now c.loop-k.k c.index-set-k.result value c.loop-k.bytes c.set_field.new.bytes
+          c.loop-k.invariant.packed c.in_ok-set_field.ensures.set;
       so_far = λ fields packed.
           step_on c.args.receiver.now c.loop-k.k c.args.set.now c.index-set-k.result value fields c.loop-k.bytes c.set_field.new.bytes
           c.loop-k-test.true c.index-set-k.is (c.loop-k.invariant.so_far fields packed) c.in_ok-set_field.ensures.set;

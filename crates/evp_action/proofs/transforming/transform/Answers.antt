@@ -22,11 +22,15 @@ returns-in_err-made c =
     let owned = arc_value c.args.item.now in
     let p = err_from_is_err_and c.from_residual.result c.from_residual.ensures.1 in
     rw (p.1, p.2)
-    (by_one conv.cache.now formats owned (transforms formats conv.limit c.args.format c.args.into c.args.set.now owned.format) c.args.format
-    (λ value. cond (converts (slice_get formats owned.format) (slice_get formats c.args.format) conv.limit value) ((c.args.format, c.args.into) ∷ []) [])
+    (by_one conv.cache.now formats owned (transforms formats conv.limit c.args.format c.args.into c.args.set.now owned.format)
+    c.args.format
+    (λ value. cond (converts (slice_get formats owned.format) (slice_get formats c.args.format) conv.limit value)
+    ((c.args.format, c.args.into) ∷ []) [])
     c.args.pass.now c.convert.new.known
-    c.args.builds.now c.convert.new.builds (Err c.in_err-made.field-0.0) c.in_err-made.ensures.kept c.in_err-made.ensures.asked c.in_err-made.ensures.builds
-    (λ value has. refused_at formats owned.format c.args.format conv.limit value _ c.in_err-made.field-0.0 (c.in_err-made.ensures.cause value has)))
+    c.args.builds.now c.convert.new.builds (Err c.in_err-made.field-0.0) c.in_err-made.ensures.kept c.in_err-made.ensures.asked
+    c.in_err-made.ensures.builds
+    (λ value has. refused_at formats owned.format c.args.format conv.limit value _ c.in_err-made.field-0.0
+    (c.in_err-made.ensures.cause value has)))
 
 pub packed-requires-clause-ask : goal.packed-requires-clause-ask
 packed-requires-clause-ask c =
@@ -46,7 +50,8 @@ packed-requires-clause-has c =
     let v = valued formats (arc_value c.args.item.now) c.requires.item in
     let made = arc_value c.in_ok-made.made in
     let is = c.in_ok-made.ensures.made v.value v.has in
-    subst (HasValueIn formats) (sym c.deref.ensures) (into_known formats made is.value_made (into_value formats _ c.args.format conv.limit v.value made is))
+    subst (HasValueIn formats) (sym c.deref.ensures) (into_known formats made is.value_made
+    (into_value formats _ c.args.format conv.limit v.value made is))
 
 pub returns-in_err-bytes : goal.returns-in_err-bytes
 returns-in_err-bytes c =
@@ -57,16 +62,21 @@ returns-in_err-bytes c =
     let cause = c.in_err-bytes.field-0.0 in
     let known = c.packed.new.known in
     let p = err_from_is_err_and c.from_residual-in_err-bytes.result c.from_residual-in_err-bytes.ensures.1 in
-    let why = subst (λ (o : OwnedBytes). (m : Datum) → HasValue formats o m → IsCause formats o.format c.args.into conv.limit m cause) c.deref.ensures
+    let why = subst (λ (o : OwnedBytes). (m : Datum) → HasValue formats o m → IsCause formats o.format c.args.into conv.limit m cause)
+    c.deref.ensures
     c.in_err-bytes.ensures.cause in
-    let asked = subst (λ (o : OwnedBytes). AsksOnly o.format c.args.into c.convert.new.known known) c.deref.ensures c.in_err-bytes.ensures.asked in
+    let asked = subst (λ (o : OwnedBytes). AsksOnly o.format c.args.into c.convert.new.known known) c.deref.ensures
+    c.in_err-bytes.ensures.asked in
     rw (p.1, p.2) (record {
       answers = λ value has. second_refused formats conv.limit c.args.format c.args.into owned.format c.args.set.now value made cause
           (c.in_ok-made.ensures.made value has) why;
-      keeps = keeps_both conv.cache.now formats c.args.pass.now c.convert.new.known known c.in_ok-made.ensures.kept c.in_err-bytes.ensures.kept;
-      asks = λ value has. asks_two formats conv.limit c.args.format c.args.into owned.format value made c.args.pass.now c.convert.new.known known
+      keeps = keeps_both conv.cache.now formats c.args.pass.now c.convert.new.known known c.in_ok-made.ensures.kept
+          c.in_err-bytes.ensures.kept;
+      asks = λ value has. asks_two formats conv.limit c.args.format c.args.into owned.format value made c.args.pass.now
+          c.convert.new.known known
           (c.in_ok-made.ensures.made value has) c.in_ok-made.ensures.asked asked;
-      builds = builds_both c.args.pass.now c.convert.new.known known c.args.builds.now c.convert.new.builds c.packed.new.builds (spare {A = Acted} (Err cause))
+      builds = builds_both c.args.pass.now c.convert.new.known known c.args.builds.now c.convert.new.builds c.packed.new.builds
+          (spare {A = Acted} (Err cause))
           c.in_ok-made.ensures.builds c.in_err-bytes.ensures.builds;
     })
 
@@ -88,7 +98,8 @@ with_fields_set-requires-clause-item c =
     let v = valued formats (arc_value c.args.item.now) c.requires.item in
     let made = arc_value c.in_ok-made.made in
     let is = c.in_ok-made.ensures.made v.value v.has in
-    subst (HasValueIn formats) (sym c.deref-2.ensures) (into_known formats made is.value_made (into_value formats _ c.args.format conv.limit v.value made is))
+    subst (HasValueIn formats) (sym c.deref-2.ensures) (into_known formats made is.value_made
+    (into_value formats _ c.args.format conv.limit v.value made is))
 
 pub with_fields_set-requires-clause-packed : goal.with_fields_set-requires-clause-packed
 with_fields_set-requires-clause-packed c =
@@ -98,7 +109,8 @@ with_fields_set-requires-clause-packed c =
     let made = arc_value c.in_ok-made.made in
     let is = c.in_ok-made.ensures.made v.value v.has in
     let has = into_value formats _ c.args.format conv.limit v.value made is in
-    let second = c.in_ok-bytes.ensures.made is.value_made (subst (λ (o : OwnedBytes). HasValue formats o is.value_made) (sym c.deref.ensures) has) in
+    let second = c.in_ok-bytes.ensures.made is.value_made (subst (λ (o : OwnedBytes). HasValue formats o is.value_made)
+    (sym c.deref.ensures) has) in
     (second.fields, second.packed)
 
 pub returns : goal.returns
@@ -110,18 +122,24 @@ returns c =
     let known = c.packed.new.known in
     let bytes = c.in_ok-bytes.bytes.items in
     let answer = c.with_fields_set.result in
-    let packs = subst (λ (o : OwnedBytes). (m : Datum) → HasValue formats o m → IsPackedInto formats o.format c.args.into conv.limit m bytes) c.deref.ensures
+    let packs = subst (λ (o : OwnedBytes). (m : Datum) → HasValue formats o m
+    → IsPackedInto formats o.format c.args.into conv.limit m bytes) c.deref.ensures
     c.in_ok-bytes.ensures.made in
-    let does = subst (λ (o : OwnedBytes). (m : Datum) (fields : Entries) → HasValue formats o m → IsPackedIn formats c.args.into fields bytes
+    let does = subst (λ (o : OwnedBytes). (m : Datum) (fields : Entries) → HasValue formats o m
+    → IsPackedIn formats c.args.into fields bytes
     → IsAnswer formats (transformed (slice_get formats c.args.into) c.args.into c.args.set.now m (rec fields)) answer) c.deref-2.ensures
     c.with_fields_set.ensures in
-    let asked = subst (λ (o : OwnedBytes). AsksOnly o.format c.args.into c.convert.new.known known) c.deref.ensures c.in_ok-bytes.ensures.asked in
+    let asked = subst (λ (o : OwnedBytes). AsksOnly o.format c.args.into c.convert.new.known known) c.deref.ensures
+    c.in_ok-bytes.ensures.asked in
     record {
       answers = λ value has. behind_both formats conv.limit c.args.format c.args.into owned.format c.args.set.now value made bytes answer
           (c.in_ok-made.ensures.made value has) packs does;
-      keeps = keeps_both conv.cache.now formats c.args.pass.now c.convert.new.known known c.in_ok-made.ensures.kept c.in_ok-bytes.ensures.kept;
-      asks = λ value has. asks_two formats conv.limit c.args.format c.args.into owned.format value made c.args.pass.now c.convert.new.known known
+      keeps = keeps_both conv.cache.now formats c.args.pass.now c.convert.new.known known c.in_ok-made.ensures.kept
+          c.in_ok-bytes.ensures.kept;
+      asks = λ value has. asks_two formats conv.limit c.args.format c.args.into owned.format value made c.args.pass.now
+          c.convert.new.known known
           (c.in_ok-made.ensures.made value has) c.in_ok-made.ensures.asked asked;
-      builds = builds_done c.args.pass.now c.convert.new.known known c.args.builds.now c.convert.new.builds c.packed.new.builds (spare answer)
+      builds = builds_done c.args.pass.now c.convert.new.known known c.args.builds.now c.convert.new.builds c.packed.new.builds
+          (spare answer)
           c.in_ok-made.ensures.builds c.in_ok-bytes.ensures.builds;
     }

@@ -20,13 +20,15 @@ pub set_fields-requires : goal.set_fields-requires
 set_fields-requires c =
     let is = c.requires.packed.1 in
     record {
-      settings = can_set c.args.formats.now c.requires.settings.0 c.args.item.now.format c.args.into c.checked-seen.result.layout c.format_of-receiver.result.now
+      settings = can_set c.args.formats.now c.requires.settings.0 c.args.item.now.format c.args.into c.checked-seen.result.layout
+          c.format_of-receiver.result.now
           c.args.set.now c.requires.settings.1 c.checked-seen.ensures.format c.format_of-receiver.ensures;
       few = c.requires.settings.1.few;
       packed = (
         c.requires.packed.0,
         subst (λ (bytes : List ℕ). IsPacked c.format_of-receiver.result.now c.requires.packed.0 bytes) (sym c.deref_mut.ensures.value)
-            (packed_at c.args.formats.now c.args.into c.format_of-receiver.result.now c.requires.packed.0 c.args.bytes.items c.format_of-receiver.ensures is),
+            (packed_at c.args.formats.now c.args.into c.format_of-receiver.result.now c.requires.packed.0 c.args.bytes.items
+            c.format_of-receiver.ensures is),
       );
     }
 
@@ -36,11 +38,13 @@ returns-in_err-set_fields c =
     let receiver = c.format_of-receiver.result.now in
     let cause = c.in_err-set_fields.field-0.0 in
     rw (p.1, p.2) (λ value fields has is.
-    let lent = lent_by c.args.formats.now c.args.item.now c.args.item.now c.checked-seen.result refl c.checked-seen.ensures.format c.checked-seen.ensures.bytes in
+    let lent = lent_by c.args.formats.now c.args.item.now c.args.item.now c.checked-seen.result refl c.checked-seen.ensures.format
+    c.checked-seen.ensures.bytes in
     let packed = subst (λ (bytes : List ℕ). IsPacked receiver fields bytes) (sym c.deref_mut.ensures.value)
     (packed_at c.args.formats.now c.args.into receiver fields c.args.bytes.items c.format_of-receiver.ensures is) in
     set_stopped c.args.formats.now c.args.into receiver c.args.set.now value fields cause c.format_of-receiver.ensures
-    (subst (λ (v : Datum). StopsBy receiver 0 c.args.set.now v fields cause) (value_is c.args.formats.now c.args.item.now c.checked-seen.result value lent has)
+    (subst (λ (v : Datum). StopsBy receiver 0 c.args.set.now v fields cause)
+    (value_is c.args.formats.now c.args.item.now c.checked-seen.result value lent has)
     (c.in_err-set_fields.ensures.cause fields packed)))
 
 pub new-requires : goal.new-requires
@@ -48,11 +52,17 @@ new-requires c =
     let receiver = c.format_of-receiver.result.now in
     let fields = c.requires.packed.0 in
     let new = c.set_fields.new.bytes in
-    let long : length new ≡ c.args.bytes.len = omega (arith, c.set_fields.auto.bytes, ap length c.deref_mut.ensures.value, c.args.bytes.ok.0) in
+    let long : length new ≡ c.args.bytes.len = omega (
+      arith,
+      c.set_fields.auto.bytes,
+      ap length c.deref_mut.ensures.value,
+      c.args.bytes.ok.0,
+    ) in
     let packed = subst (λ (bytes : List ℕ). IsPacked receiver fields bytes) (sym c.deref_mut.ensures.value)
     (packed_at c.args.formats.now c.args.into receiver fields c.args.bytes.items c.format_of-receiver.ensures c.requires.packed.1) in
     let are = c.in_ok-set_fields.ensures.set fields packed in
-    let laid = laid_in c.args.formats.now c.args.into receiver fields c.args.bytes.items c.format_of-receiver.ensures c.requires.packed.1 in
+    let laid = laid_in c.args.formats.now c.args.into receiver fields c.args.bytes.items c.format_of-receiver.ensures
+    c.requires.packed.1 in
     subst (λ (bytes : List ℕ). length bytes < 2 ^ 32) (sym (in_buffer c.args.bytes.len c.args.bytes.items new long))
     (packed_short receiver are.fields new laid are.packed)
 
@@ -60,12 +70,20 @@ pub returns : goal.returns
 returns c = λ value fields has is.
     let receiver = c.format_of-receiver.result.now in
     let new = c.set_fields.new.bytes in
-    let long : length new ≡ c.args.bytes.len = omega (arith, c.set_fields.auto.bytes, ap length c.deref_mut.ensures.value, c.args.bytes.ok.0) in
-    let lent = lent_by c.args.formats.now c.args.item.now c.args.item.now c.checked-seen.result refl c.checked-seen.ensures.format c.checked-seen.ensures.bytes in
+    let long : length new ≡ c.args.bytes.len = omega (
+      arith,
+      c.set_fields.auto.bytes,
+      ap length c.deref_mut.ensures.value,
+      c.args.bytes.ok.0,
+    ) in
+    let lent = lent_by c.args.formats.now c.args.item.now c.args.item.now c.checked-seen.result refl c.checked-seen.ensures.format
+    c.checked-seen.ensures.bytes in
     let packed = subst (λ (bytes : List ℕ). IsPacked receiver fields bytes) (sym c.deref_mut.ensures.value)
     (packed_at c.args.formats.now c.args.into receiver fields c.args.bytes.items c.format_of-receiver.ensures is) in
-    let are = subst (λ (v : Datum). AreSet receiver 0 c.args.set.now v fields new) (value_is c.args.formats.now c.args.item.now c.checked-seen.result value lent has)
+    let are = subst (λ (v : Datum). AreSet receiver 0 c.args.set.now v fields new)
+    (value_is c.args.formats.now c.args.item.now c.checked-seen.result value lent has)
     (c.in_ok-set_fields.ensures.set fields packed) in
-    set_sent c.args.formats.now c.args.into receiver c.args.set.now value fields new (arc_value c.in_ok-new.field-0) c.format_of-receiver.ensures
+    set_sent c.args.formats.now c.args.into receiver c.args.set.now value fields new (arc_value c.in_ok-new.field-0)
+    c.format_of-receiver.ensures
     (laid_in c.args.formats.now c.args.into receiver fields c.args.bytes.items c.format_of-receiver.ensures is) are
     (c.in_ok-new.ensures.ok ∙ (c.new.ensures ∙ ap (owned_of c.args.into) (in_buffer c.args.bytes.len c.args.bytes.items new long)))

@@ -18,7 +18,8 @@ returns-in-Ok c =
     c.act_on.new.waiting.items c.args.entry c.args.learnt.now.pass c.act_on.new.learnt.pass c.args.learnt.now.builds
     c.act_on.new.learnt.builds
     c.in-Some.ensures.items
-    (subst (λ (l : List Received). IsActedOn job stone (keeping_all here l) (work_of c.act_on.new.work) received c.act_on.new.waiting.items)
+    (subst (λ (l : List Received). IsActedOn job stone (keeping_all here l) (work_of c.act_on.new.work) received
+    c.act_on.new.waiting.items)
     none c.in-Ok.ensures.acted)
     (ap (keeping_all (work_of c.act_on.new.work)) aside)
     c.in-Ok.ensures.learns

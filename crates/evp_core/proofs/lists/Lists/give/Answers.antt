@@ -83,7 +83,8 @@ invariant_of-self c =
     let raised : c.raise.new.counts.items ≡ set old.given (route_of c.args.entry) (position_of c.args.entry + 1) =
     c.raise.ensures (position_of c.args.entry) (ap (slice_get old.given) route ∙ next.next)
     ∙ ap (λ (n : ℕ). set old.given n (position_of c.args.entry + 1)) route in
-    joined_room old c.from-place.result c.args.entry _ c.raise.new.counts.items push raised here room _ _ c.self.invariant c.push.ensures.room
+    joined_room old c.from-place.result c.args.entry _ c.raise.new.counts.items push raised here room _ _ c.self.invariant
+    c.push.ensures.room
 
 pub returns-clause-joined : goal.returns-clause-joined
 returns-clause-joined c =

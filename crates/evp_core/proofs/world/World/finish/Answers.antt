@@ -21,7 +21,8 @@ returns-clause-turned c =
     let old = c.loop.self in
     let new = c.pass.new.self in
     let passes = c.loop.invariant in
-    rotated start new (passes.passes + 1) (one_pass start old new passes.passes passes.passed passes.same.count c.in_ok-pass.ensures.turned)
+    rotated start new (passes.passes + 1) (one_pass start old new passes.passes passes.passed passes.same.count
+    c.in_ok-pass.ensures.turned)
     (few_passes start old c.count.ensures.held passes)
 
 pub returns-in_err-pass-clause-stopped : goal.returns-in_err-pass-clause-stopped
@@ -30,7 +31,8 @@ returns-in_err-pass-clause-stopped c =
     let old = c.loop.self in
     let passes = c.loop.invariant in
     let p = err_from_is_err_and c.from_residual.result c.from_residual.ensures.1 in
-    rw p.1 (stopped_in start old c.pass.new.self passes.passes passes.passed passes.same.count c.count.ensures.done c.in_err-pass.ensures.stopped
+    rw p.1 (stopped_in start old c.pass.new.self passes.passes passes.passed passes.same.count c.count.ensures.done
+    c.in_err-pass.ensures.stopped
     (few_passes start old c.count.ensures.held passes))
 
 pub returns-clause-turns : goal.returns-clause-turns

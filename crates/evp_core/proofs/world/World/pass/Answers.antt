@@ -27,7 +27,8 @@ returns-clause-passed c =
     let start = c.args.self.now in
     let now = c.loop-actor.self in
     let all : c.loop-actor.actor ≡ length start.actors =
-    (let count = c.count-actor-end.ensures.count in let past = c.loop-actor-test.false in let within = c.loop-actor.auto.actor-end in omega arith) in
+    (let count = c.count-actor-end.ensures.count in let past = c.loop-actor-test.false in let within = c.loop-actor.auto.actor-end in
+    omega arith) in
     pass_ends start now c.loop-actor.moved (subst (λ (n : ℕ). InPass start now n c.loop-actor.moved) all c.loop-actor.invariant)
 
 pub returns-in_err-step-clause-same : goal.returns-in_err-step-clause-same
@@ -48,7 +49,8 @@ pub returns-clause-turned : goal.returns-clause-turned
 returns-clause-turned c =
     let start = c.args.self.now in
     let all : c.loop-actor.actor ≡ length start.actors =
-    (let count = c.count-actor-end.ensures.count in let past = c.loop-actor-test.false in let within = c.loop-actor.auto.actor-end in omega arith) in
+    (let count = c.count-actor-end.ensures.count in let past = c.loop-actor-test.false in let within = c.loop-actor.auto.actor-end in
+    omega arith) in
     (subst (λ (n : ℕ). InPass start c.loop-actor.self n c.loop-actor.moved) all c.loop-actor.invariant).turned
 
 pub returns-in_err-step-clause-stopped : goal.returns-in_err-step-clause-stopped

@@ -16,7 +16,8 @@ returns-clause-turned c =
     c.args.actor turn) c.self.view_is
     (subst (λ (d : ℕ). WorldTurned (world_of old.cache old.reach.lists old.actors.items old.done)
     (world_of old.cache new.reach.lists new.actors.items d) c.args.actor turn) (sym c.done_behind-self-inside.ensures)
-    (shifted old.cache old.reach.lists new.reach.lists old.actors.items new.actors.items old.done c.args.actor turn c.go-turn.ensures.turned))
+    (shifted old.cache old.reach.lists new.reach.lists old.actors.items new.actors.items old.done c.args.actor turn
+    c.go-turn.ensures.turned))
 
 pub returns-clause-answers : goal.returns-clause-answers
 returns-clause-answers c =

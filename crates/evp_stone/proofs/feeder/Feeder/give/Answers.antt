@@ -35,7 +35,12 @@ returns-in-Ok-clause-turned g c =
     let on = goes_on job work c.requires.more in
     let next = c.requires.next in
     goes job _ _ work (fed c.go_on.new.self) _ on.part _ on.to.comes (
-      (c.args.entry, record { taken = c.in-Ok.ensures.taken; given = c.in-Ok.ensures.given }, next.route, next.stands on.part _ on.to.comes),
+      (
+        c.args.entry,
+        record { taken = c.in-Ok.ensures.taken; given = c.in-Ok.ensures.given },
+        next.route,
+        next.stands on.part _ on.to.comes,
+      ),
       subst (OneFed work) (sym c.go_on.ensures) on.to.fed,
     )
 

@@ -16,7 +16,8 @@ use Rattle.evp_stone.proofs.feeder.Feeder.next.Goals as goal
 read_at : (sources list : List Source) (number place : ℕ) (source : Source) → list ≡ sources → place ≡ number → number < length sources
     → source ≡ get_or list place source → slice_get sources number ≡ Some source
 read_at sources list number place source are is below read =
-    rw (← are, ← is) (slice_get_read list (length list) place source refl (let long = ap (λ (l : List Source). length l) are in omega arith) read)
+    rw (← are, ← is) (slice_get_read list (length list) place source refl (let long = ap (λ (l : List Source). length l) are in
+    omega arith) read)
 
 pub bounds-as_slice-self : goal.bounds-as_slice-self
 bounds-as_slice-self c =

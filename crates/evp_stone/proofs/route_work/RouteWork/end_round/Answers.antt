@@ -20,8 +20,10 @@ returns-clause-ended c =
     let long : length c.lengthen.new.outlets ≡ self.outlets.len = search rules in
     let items : (with_items self.outlets c.lengthen.new.outlets).items ≡ c.lengthen.new.outlets =
     with_items_is self.outlets c.lengthen.new.outlets long in
-    let outlets : outlets_of (with_items self.outlets c.lengthen.new.outlets).items ≡ lengthened everywhere 0 (outlets_of self.outlets.items) =
-    ap outlets_of items ∙ c.lengthen.ensures ∙ ap (λ (l : List declared.Outlet). lengthened everywhere 0 (outlets_of l)) c.deref_mut.ensures.value in
+    let outlets : outlets_of (with_items self.outlets c.lengthen.new.outlets).items ≡ lengthened everywhere 0
+    (outlets_of self.outlets.items) =
+    ap outlets_of items ∙ c.lengthen.ensures ∙ ap (λ (l : List declared.Outlet). lengthened everywhere 0 (outlets_of l))
+    c.deref_mut.ensures.value in
     let ended : c.push_reserved.new.self.items ≡ self.ended.items ++ account ∷ [] =
     c.push_reserved.ensures.items ∙ ap (λ (l : List RoundAccount). l ++ account ∷ []) c.reserve.ensures.items in
     let running : running_of c.replace-running.new.dest ≡ nothing_done =
@@ -29,9 +31,11 @@ returns-clause-ended c =
     record {
       account = account;
       closes = subst (λ (n : ℕ). Closes (running_of self.running) n account) held closes;
-      is = work_same self.route (outlets_of (with_items self.outlets c.lengthen.new.outlets).items) (lengthened everywhere 0 (outlets_of self.outlets.items))
+      is = work_same self.route (outlets_of (with_items self.outlets c.lengthen.new.outlets).items)
+          (lengthened everywhere 0 (outlets_of self.outlets.items))
           self.kept.items c.push_reserved.new.self.items (self.ended.items ++ account ∷ [])
           (running_of c.replace-running.new.dest) nothing_done outlets ended running;
-      waits = subst (λ (l : List declared.Outlet). AreLined (IsOf (an_end c.args.round)) everywhere 0 (outlets_of l) c.line_up.new.waiting.items)
+      waits = subst (λ (l : List declared.Outlet). AreLined (IsOf (an_end c.args.round)) everywhere 0 (outlets_of l)
+          c.line_up.new.waiting.items)
           c.deref.ensures.value c.in_ok-line_up.ensures.lined;
     }

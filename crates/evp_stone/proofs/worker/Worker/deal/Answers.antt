@@ -14,7 +14,8 @@ use Rattle.evp_stone.proofs.Unended.{left}
 use Rattle.evp_stone.proofs.WorkPlaces.{numbers_rise, number_in, seen_at, read_at, read_on, place_within, seen_set, read_set}
 use Rattle.evp_stone.proofs.worker.Worker.deal.Goals as goal
 
-stands : (works listed : List declared.RouteWork) (route place : ℕ) → listed ≡ works → StandsAt listed route place → StandsAt works route place
+stands : (works listed : List declared.RouteWork) (route place : ℕ) → listed ≡ works → StandsAt listed route place
+    → StandsAt works route place
 stands works listed route place same standing = subst (λ (l : List declared.RouteWork). StandsAt l route place) same standing
 
 pub place_of-place-requires-clause-rise : goal.place_of-place-requires-clause-rise
@@ -33,14 +34,16 @@ place_of-place-requires-clause-there c =
 pub index_mut-work-requires : goal.index_mut-work-requires
 index_mut-work-requires c =
     let works = c.args.self.now.routes.items in
-    let there = stands works c.as_slice.result.now c.route.result c.place_of-place.result c.as_slice.ensures.value c.place_of-place.ensures in
+    let there = stands works c.as_slice.result.now c.route.result c.place_of-place.result c.as_slice.ensures.value
+    c.place_of-place.ensures in
     let within = place_within works c.route.result c.place_of-place.result there in
     search (rules, within)
 
 pub index-requires : goal.index-requires
 index-requires c =
     let works = c.args.self.now.routes.items in
-    let there = stands works c.as_slice.result.now c.route.result c.place_of-place.result c.as_slice.ensures.value c.place_of-place.ensures in
+    let there = stands works c.as_slice.result.now c.route.result c.place_of-place.result c.as_slice.ensures.value
+    c.place_of-place.ensures in
     let within = place_within works c.route.result c.place_of-place.result there in
     search (rules, within)
 
@@ -54,7 +57,8 @@ deal-requires-clause-can c =
     let at = seen_at works place read (read_at works c.route.result place read there c.index_mut-work.ensures.value) in
     let on : route_of c.args.entry ≡ read.route =
     sym c.route.ensures ∙ sym (read_on works c.route.result place read there c.index_mut-work.ensures.value) in
-    can_deal c.args.shared.now.job.now c.parts.ensures.kept (seen self) c.args.entry c.requires.holds c.requires.none place (work_of read) at on
+    can_deal c.args.shared.now.job.now c.parts.ensures.kept (seen self) c.args.entry c.requires.holds c.requires.none place
+    (work_of read) at on
     c.args.shared.now.cache.now c.args.learnt.now.pass c.requires.cache c.requires.declared c.requires.pass
 
 pub still_unended-self-requires : goal.still_unended-self-requires
@@ -67,7 +71,8 @@ still_unended-self-requires c =
     let at = seen_at works place read (read_at works c.route.result place read there c.index_mut-work.ensures.value) in
     let on : route_of c.args.entry ≡ read.route =
     sym c.route.ensures ∙ sym (read_on works c.route.result place read there c.index_mut-work.ensures.value) in
-    some_left c.args.shared.now.job.now c.parts.ensures.kept (seen self) c.args.entry c.requires.holds c.requires.none place (work_of read) at on
+    some_left c.args.shared.now.job.now c.parts.ensures.kept (seen self) c.args.entry c.requires.holds c.requires.none place
+    (work_of read) at on
     self.unended c.requires.unended
 
 pub returns-in-Ok-clause-gone : goal.returns-in-Ok-clause-gone
@@ -91,18 +96,22 @@ returns-in-Ok-clause-gone c =
     let hand = c.in-Ok.hand in
     let entry = c.args.entry in
     let done = hand_done job c.parts.ensures.kept (seen self) entry c.requires.holds c.requires.none place (work_of read) at on
-    cells (work_of new) waiting hand known later built now self.unended c.requires.pass c.requires.met c.requires.unended c.in-Ok.ensures in
+    cells (work_of new) waiting hand known later built now self.unended c.requires.pass c.requires.met c.requires.unended
+    c.in-Ok.ensures in
     let of_read : c.len-ended.result ≡ length c.index.result.now.ended.items = search rules in
     let ended : c.len-ended.result ≡ round_in (work_of new) =
-    of_read ∙ ap (λ (w : declared.RouteWork). length w.ended.items) (read_set works c.route.result place new c.index.result.now there c.index.ensures) in
+    of_read ∙ ap (λ (w : declared.RouteWork). length w.ended.items)
+    (read_set works c.route.result place new c.index.result.now there c.index.ensures) in
     let of_parts : c.len-rounds.result ≡ length c.parts.result.now.rounds.items = search rules in
     let rounds : c.len-rounds.result ≡ length job.rounds = of_parts ∙ ap (λ (j : JobShape). length j.rounds) c.parts.ensures.value in
     let count : c.still_unended-self.result ≡ left self.unended (round_in (work_of new) == length job.rounds) =
     c.still_unended-self.ensures ∙ ap (λ (n : ℕ). left self.unended (n == c.len-rounds.result)) ended
     ∙ ap (λ (n : ℕ). left self.unended (round_in (work_of new) == n)) rounds in
-    let routes = ap (λ (l : List RouteWork). record { stone = self.stone; waiting = waiting; hand = hand; routes = l }) (seen_set works place new) in
+    let routes = ap (λ (l : List RouteWork). record { stone = self.stone; waiting = waiting; hand = hand; routes = l })
+    (seen_set works place new) in
     subst (λ (s : StoneWork). HandGone job cells (seen self) s entry c.still_unended-self.result known later built now Moved) (sym routes)
-    (subst (λ (n : ℕ). HandGone job cells (seen self) (turned (holding (seen self) entry) waiting hand place (work_of new)) entry n known later
+    (subst (λ (n : ℕ). HandGone job cells (seen self) (turned (holding (seen self) entry) waiting hand place (work_of new)) entry n
+    known later
     built now Moved) (sym count) done)
 
 pub returns-in-Err-clause-gone : goal.returns-in-Err-clause-gone

@@ -18,14 +18,16 @@ first_goes job taken given work entry state = may_go job taken given (gives work
 pub target_of-target-requires : goal.target_of-target-requires
 target_of-target-requires g c =
     let before = c.args.port.now in
-    let go = first_goes c.args.job.now (g.P.Port.taken before) (g.P.Port.given before) (seen c.args.self.now) c.args.entry c.requires.state in
+    let go = first_goes c.args.job.now (g.P.Port.taken before) (g.P.Port.given before) (seen c.args.self.now) c.args.entry
+    c.requires.state in
     slice_get_within c.args.job.now.routes c.route.result go.longer
     (ap (slice_get c.args.job.now.routes) c.route.ensures ∙ go.there)
 
 pub give-requires : goal.give-requires
 give-requires g c =
     let before = c.args.port.now in
-    let go = first_goes c.args.job.now (g.P.Port.taken before) (g.P.Port.given before) (seen c.args.self.now) c.args.entry c.requires.state in
+    let go = first_goes c.args.job.now (g.P.Port.taken before) (g.P.Port.given before) (seen c.args.self.now) c.args.entry
+    c.requires.state in
     may_give c.args.job.now (g.P.Port.is_of before) (g.P.Port.given before) c.args.entry c.target_of-target.result c.requires.of go
     (sym (c.target_of-target.ensures go.longer (ap (slice_get c.args.job.now.routes) c.route.ensures ∙ go.there)))
 

@@ -5,7 +5,7 @@ use Rattle.evp_crew.specs.Seat.{SeatShape}
 abbrev pub seat_of : Inside → SeatShape
 seat_of seat = record {
   number = seat.number;
-  actor = seat.actor;
+  actor = seat.actor.value;
   passes = seat.passes;
   job = seat.job.value;
   cells = seat.cache.value;

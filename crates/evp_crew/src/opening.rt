@@ -144,7 +144,8 @@ fn seat(
     ensures { IfOk result (IsOpening job.now cache.now crew.now number) }
 {
     let _kept = job.parts();
-    let actor = Actor::new(alloc, job, cache, number)?;
+    let made = Actor::new(alloc, job, cache, number)?;
+    let actor = Box::new(alloc, made)?;
     Ok(Seat {
         number,
         actor,

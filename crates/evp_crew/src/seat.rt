@@ -25,7 +25,8 @@ use std::sync::Wait;
 #[derive(Drop)]
 pub struct Seat {
     pub(crate) number: u16,
-    pub(crate) actor: Actor,
+    // On the heap, so that a rota moves little.
+    pub(crate) actor: Box<Actor>,
     pub(crate) passes: Passes,
     // For the proofs: of which job, cache and crew it is.
     pub(crate) job: Snapshot<Job>,
@@ -102,6 +103,6 @@ impl Seat {
             → IsAccount job result }
     {
         let Seat { actor, .. } = self;
-        actor.account()
+        Box::into_inner(actor).account()
     }
 }

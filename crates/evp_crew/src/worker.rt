@@ -12,9 +12,13 @@ use crate::seat::Seat;
 use evp_cache::PlanCache;
 use evp_stone::{Job, Turn};
 use std::sync::Wait;
+use std::{hint, thread};
 
 // How many turns a worker does with a seat before it puts it back.
 const MOST_TURNS: u32 = 64;
+
+// After how many seats in a row that moved nothing a worker lets other threads run.
+const MOST_IDLE: u32 = 64;
 
 /// What all workers share.
 #[derive(Clone, Copy)]
@@ -53,18 +57,21 @@ impl Worker {
             (three office.now.job.now office.now.cache.now office.now.crew.now) self.new }
     {
         let mut next = Next::Take;
+        // How many seats in a row moved nothing.
+        let mut idle = 0;
         for _ in rt.forever() {
             next = match next {
-                Next::Take => self.take(rt, office),
-                Next::Hold(seat) => self.serve(rt, office, gate, seat),
+                Next::Take => self.take(rt, office, idle),
+                Next::Hold(seat) => self.serve(rt, office, gate, seat, &mut idle),
                 Next::End => return,
             };
         }
         unreachable!()
     }
 
-    // Takes a seat out of the rota, or ends where it is empty.
-    fn take<R: Wait>(&mut self, rt: &R, office: &Office<'_>) -> Next
+    // Takes a seat out of the rota, or ends where it is empty. It waits a little where the last
+    // seats moved nothing, so that others get on.
+    fn take<R: Wait>(&mut self, rt: &R, office: &Office<'_>, idle: u32) -> Next
         requires { WorksAt office.now.rota.now
             (three office.now.job.now office.now.cache.now office.now.crew.now) self.old }
         ensures works { WorksAt office.now.rota.now
@@ -72,6 +79,7 @@ impl Worker {
         ensures next { GoesOnWith
             (three office.now.job.now office.now.cache.now office.now.crew.now) result }
     {
+        rest(idle);
         match office.rota.take(rt, &mut self.pass) {
             Some(seat) => Next::Hold(seat),
             None => Next::End,
@@ -85,6 +93,7 @@ impl Worker {
         office: &Office<'_>,
         gate: &G,
         mut seat: Seat,
+        idle: &mut u32,
     ) -> Next
         requires works { WorksAt office.now.rota.now
             (three office.now.job.now office.now.cache.now office.now.crew.now) self.old }
@@ -95,7 +104,7 @@ impl Worker {
         ensures next { GoesOnWith
             (three office.now.job.now office.now.cache.now office.now.crew.now) result }
     {
-        match turns(rt, office, gate, self.number, &mut seat) {
+        match turns(rt, office, gate, self.number, &mut seat, idle) {
             Turn::Closed => {
                 let _number = seat.number();
                 match self.closed.push(seat) {
@@ -130,13 +139,26 @@ impl Worker {
     }
 }
 
-// Does turns with a seat while they move, with the gate before each.
+// Waits a little: the longer, the more seats in a row moved nothing.
+fn rest(idle: u32) {
+    if idle > MOST_IDLE {
+        thread::yield_now();
+        return;
+    }
+    for _ in 0..idle {
+        hint::spin_loop();
+    }
+}
+
+// Does turns with a seat while they move, with the gate before each. It is one more in a row that
+// moved nothing, or the row is at its end.
 fn turns<R: Wait, G: Gate>(
     rt: &R,
     office: &Office<'_>,
     gate: &G,
     worker: u32,
     seat: &mut Seat,
+    idle: &mut u32,
 ) -> Turn
     requires { IsOfThree
         (three office.now.job.now office.now.cache.now office.now.crew.now) seat.old }
@@ -144,12 +166,14 @@ fn turns<R: Wait, G: Gate>(
         (three office.now.job.now office.now.cache.now office.now.crew.now) seat.new }
     ensures closed { IfClosed result (IsClosed office.now.job.now seat.new.actor.role) }
 {
+    *idle = idle.saturating_add(1);
     for _ in 0..MOST_TURNS {
         gate.before(worker, u32::from(seat.number()));
         let turn = office.crew.step(rt, office.job, office.cache, seat);
         if turn != Turn::Moved {
             return turn;
         }
+        *idle = 0;
     }
     Turn::Moved
 }

@@ -1,5 +1,6 @@
 -- The pieces of a sender's record, as they are put one behind another.
-use Rattle.std.proofs.Common.{◌≡◌, ◌≢◌, ℕ, zero, suc, ◌+◌, ◌-◌, ◌*◌, ◌%◌, ℤ, pos, Bool, true, false, length, take, List, [], ◌∷◌, ◌++◌, map, refl, ap, subst, ◌∙◌}
+use Rattle.std.proofs.Common.{◌≡◌, ◌≢◌, ℕ, zero, suc, ◌+◌, ◌-◌, ◌*◌, ◌%◌, ℤ, pos, Bool, true, false, length, take}
+use Rattle.std.proofs.Common.{List, [], ◌∷◌, ◌++◌, map, refl, ap, subst, ◌∙◌}
 use Rattle.std.proofs.Common.{add-one, arith}
 use Rattle.std.specs.Prelude.{nat_eq, replicate}
 use Rattle.std.specs.Fmt.{decimal}
@@ -22,7 +23,8 @@ use Rattle.evp_gen.specs.Packed.{element_piece, fixed_size, listed_pieces, tag_p
 use Rattle.evp_gen.specs.Senders.{element_of, number_x, sent_layout, sent_record}
 use Rattle.evp_gen.proofs.SentRecords.{count-elements, tag_if}
 
-put_pieces-append : (first rest : List Piece) (bytes : List ℕ) → put_pieces (first ++ rest) bytes ≡ put_pieces rest (put_pieces first bytes)
+put_pieces-append : (first rest : List Piece) (bytes : List ℕ)
+    → put_pieces (first ++ rest) bytes ≡ put_pieces rest (put_pieces first bytes)
 put_pieces-append [] rest bytes = refl
 put_pieces-append (piece ∷ first) rest bytes = put_pieces-append first rest (put_at piece.at piece.bytes bytes)
 
@@ -83,7 +85,10 @@ listed_none profile i size none = ap (λ (n : ℕ). counted profile i n size) no
 
 counted_some : (profile : Profile) (i n size : ℕ) → n ≢ 0 → counted profile i n size
     ≡ record {
-      all = record { at = 8 + 2 * pointer_size profile; bytes = digits (byte_order profile) (pointer_size profile) (pos (next_block size)) }
+      all = record {
+        at = 8 + 2 * pointer_size profile;
+        bytes = digits (byte_order profile) (pointer_size profile) (pos (next_block size));
+      }
           ∷ map (element_piece profile (next_block size) i) (range_with_len 0 n);
       size = next_block size + n * 2;
     }
@@ -91,15 +96,20 @@ counted_some profile i zero size some = absurd (some refl)
 counted_some profile i (suc n) size some =
     let q = next_block size in
     let elements = elements_from (map (element_of i) (range_with_len 0 (suc n))) in
-    let count : count_of elements ≡ suc n = count-elements (element_of i) (range_with_len 0 (suc n)) ∙ length-range_with_len 0 (suc n) in
-    let pointer : Piece = record { at = 8 + 2 * pointer_size profile; bytes = digits (byte_order profile) (pointer_size profile) (pos q) } in
+    let count : count_of elements ≡ suc n = count-elements (element_of i) (range_with_len 0 (suc n))
+    ∙ length-range_with_len 0 (suc n) in
+    let place = 8 + 2 * pointer_size profile in
+    let pointer : Piece = record { at = place; bytes = digits (byte_order profile) (pointer_size profile) (pos q) } in
     ap (λ (p : Pieces). record { all = pointer ∷ p.all; size = p.size })
     (elements_side profile q i 0 (suc n) (q + count_of elements * 2)
     ∙ ap (λ (m : ℕ). record { all = map (element_piece profile q i) (range_with_len 0 (suc n)); size = q + m * 2 }) count)
 
 pub listed_some : (profile : Profile) (i size : ℕ) → i % 4 ≢ 0 → listed_pieces profile i size
     ≡ record {
-      all = record { at = 8 + 2 * pointer_size profile; bytes = digits (byte_order profile) (pointer_size profile) (pos (next_block size)) }
+      all = record {
+        at = 8 + 2 * pointer_size profile;
+        bytes = digits (byte_order profile) (pointer_size profile) (pos (next_block size));
+      }
           ∷ map (element_piece profile (next_block size) i) (range_with_len 0 (i % 4));
       size = next_block size + i % 4 * 2;
     }
@@ -139,7 +149,8 @@ put_joined profile s i bytes =
     let tag = tag_pieces profile i in
     let list = listed_pieces profile i tag.size in
     let count : Piece = record { at = 8 + pointer_size profile; bytes = digits (byte_order profile) 4 (pos (i % 4)) } in
-    let first = put_at 4 (digits (byte_order profile) 4 (as_number (number_x s i))) (put_at 0 (digits (byte_order profile) 4 (pos i)) bytes) in
+    let order = byte_order profile in
+    let first = put_at 4 (digits order 4 (as_number (number_x s i))) (put_at 0 (digits order 4 (pos i)) bytes) in
     ap (λ (p : Pieces). put_pieces p.all bytes) (pieces_joined profile s i)
     ∙ put_pieces-append tag.all (count ∷ (list.all ++ [])) first
     ∙ ap (λ (all : List Piece). put_pieces (count ∷ all) (put_pieces tag.all first)) (append-nil list.all)

@@ -17,7 +17,8 @@ fixed_size profile = 8 + 3 * pointer_size profile
 
 -- the string `tag` of record i
 abbrev pub tag_pieces : Profile → ℕ → Pieces
-tag_pieces profile i = pack_text (machine_of (sent_layout profile)) 8 (tag_of i) (fixed_size profile)
+tag_pieces profile i =
+    pack_text (machine_of (sent_layout profile)) 8 (tag_of i) (fixed_size profile)
 
 -- the list `v`, behind blocks that end there
 abbrev pub listed_pieces : Profile → ℕ → ℕ → Pieces

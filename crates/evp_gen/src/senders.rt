@@ -97,8 +97,9 @@ fn put_records(
 ) -> Result<(), Memory>
     requires sender { sender < 4 }
     requires few { n ≤ 20000 }
-    ensures { OnOk result (out.new.items ≡ out.old.items
-        ++ flat_map item_bytes (map (sent_item (sent_layout profile) sender) (range_with_len 0 n))) }
+    ensures { OnOk result
+        (out.new.items ≡ out.old.items ++ flat_map item_bytes
+        (map (sent_item (sent_layout profile) sender) (range_with_len 0 n))) }
 {
     out.reserve(n as usize * LONGEST_FRAME)?;
     let mut packed = Vec::with_capacity(alloc, LONGEST_RECORD)?;

@@ -26,5 +26,5 @@ loop-k-preserved c =
 pub returns : goal.returns
 returns c =
     let ended : c.loop-k.k ≡ c.args.index % 4 = omega arith in
-    c.loop-k.invariant
-    ∙ ap (λ (n : ℕ). put_pieces (map (element_piece c.args.profile c.args.block c.args.index) (range_with_len 0 n)) c.args.packed.now) ended
+    let piece = element_piece c.args.profile c.args.block c.args.index in
+    c.loop-k.invariant ∙ ap (λ (n : ℕ). put_pieces (map piece (range_with_len 0 n)) c.args.packed.now) ended

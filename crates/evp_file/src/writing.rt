@@ -5,9 +5,10 @@ ghost use Rattle.std.specs.Prelude.{All, IfOk, OnOk, IsTrue, codes};
 ghost use Rattle.std.specs.List.{flat_map};
 ghost use Rattle.evp_base.specs.Numbers.{is_width};
 ghost use Rattle.evp_format.specs.Describing.{describe, described_number};
+ghost use Rattle.evp_file.specs.File.{item_of};
 ghost use Rattle.evp_file.specs.Frames.{sized, format_bytes, item_bytes};
 ghost use Rattle.evp_file.specs.Whole.{IsFormatOf, IsWhole, IsWithin};
-ghost use Rattle.evp_file.specs.Writing.{written};
+ghost use Rattle.evp_file.specs.Writing.{begun, written};
 
 use crate::{FileFormat, FileItem, KnownFormat, RecordFile};
 use evp_base::{Memory, Order, put_number};
@@ -25,12 +26,46 @@ pub fn write_file(
     requires { IsWhole known.now file.now }
     ensures { IfOk result (λ bytes. bytes.items ≡ written known.now file.now) }
 {
+    let mut out = begin_file(alloc, known, file.formats.as_slice())?;
+    put_items(&mut out, file.items.as_slice())?;
+    end_file(&mut out)?;
+    Ok(out)
+}
+
+/// The front of a file that is written record by record: what stands before the first of them.
+/// Formats are written as `write_file` does.
+pub fn begin_file(
+    alloc: Global,
+    known: &[KnownFormat],
+    formats: &[FileFormat],
+) -> Result<Vec<u8>, Memory>
+    requires { All (IsFormatOf known.now) formats.now }
+    ensures { IfOk result (λ bytes. bytes.items ≡ begun known.now formats.now) }
+{
     let mut out = Vec::new(alloc);
     out.extend_from_slice(b"NDR1")?;
-    put_formats(&mut out, alloc, known, file.formats.as_slice())?;
-    put_items(&mut out, file.items.as_slice())?;
-    out.push(b'E')?;
+    put_formats(&mut out, alloc, known, formats)?;
     Ok(out)
+}
+
+/// Adds a record of the file's format of this number at the end. Without memory a part of it may
+/// stand there.
+pub fn put_record(out: &mut Vec<u8>, format: u16, bytes: &[u8]) -> Result<(), Memory>
+    requires { length bytes.now < 2 ^ 32 }
+    ensures { OnOk result
+        (out.new.items ≡ out.old.items ++ item_bytes (item_of format bytes.now)) }
+{
+    out.push(b'R')?;
+    put_word(out, 2, u32::from(format))?;
+    put_sized(out, bytes)
+}
+
+/// Ends a file behind its last record.
+pub fn end_file(out: &mut Vec<u8>) -> Result<(), Memory>
+    ensures { OnOk result (out.new.items ≡ out.old.items ++ codes "E") }
+{
+    out.push(b'E')?;
+    Ok(())
 }
 
 // The frames of the formats, in their order.
@@ -101,9 +136,7 @@ fn put_item(out: &mut Vec<u8>, item: &FileItem) -> Result<(), Memory>
     requires { IsWithin (2 ^ 32 - 1) item.now }
     ensures { OnOk result (out.new.items ≡ out.old.items ++ item_bytes item.now) }
 {
-    out.push(b'R')?;
-    put_word(out, 2, u32::from(item.format))?;
-    put_sized(out, item.bytes.as_slice())
+    put_record(out, item.format, item.bytes.as_slice())
 }
 
 // The bytes behind their length.

@@ -1,5 +1,5 @@
 -- The text of a number below 100: one or two bytes, none of which is zero.
-use Rattle.std.proofs.Common.{ℕ, ◌+◌, ◌/◌, ◌%◌, ◌<◌, ◌≤◌, List, [], ◌∷◌, ◌++◌, length, sym, ap}
+use Rattle.std.proofs.Common.{◌≡◌, ℕ, ◌+◌, ◌/◌, ◌%◌, ◌<◌, ◌≤◌, List, [], ◌∷◌, ◌++◌, length, sym, ap}
 use Rattle.std.proofs.Common.{subst, ◌∙◌, ◌⊎◌, inl, inr}
 use Rattle.std.proofs.Common.{arith}
 use Rattle.std.specs.Fmt.{decimal}
@@ -30,14 +30,21 @@ two_digits m n low below = record {
   few = omega arith;
 }
 
+pub one_figure : (n : ℕ) → n < 10 → decimal n ≡ (48 + n) ∷ []
+one_figure n below = decimal_digit n below
+
+pub two_figures : (n : ℕ) → n < 100 → 10 ≤ n → decimal n ≡ (48 + n / 10) ∷ (48 + n % 10) ∷ []
+two_figures n small above =
+    let high : n / 10 < 10 = omega (arith, small) in
+    decimal_step n above (omega (arith, small))
+    ∙ ap (λ (front : List ℕ). front ++ (48 + n % 10) ∷ []) (decimal_digit (n / 10) high)
+
 by_size : (n : ℕ) → n < 100 → (n < 10) ⊎ (10 ≤ n) → IsShortText (decimal n)
-by_size n small (inl below) = subst IsShortText (sym (decimal_digit n below)) (one_digit n below)
+by_size n small (inl below) = subst IsShortText (sym (one_figure n below)) (one_digit n below)
 by_size n small (inr above) =
     let high : n / 10 < 10 = omega (arith, small) in
     let low : n % 10 < 10 = omega arith in
-    let text = decimal_step n above (omega (arith, small))
-    ∙ ap (λ (front : List ℕ). front ++ (48 + n % 10) ∷ []) (decimal_digit (n / 10) high) in
-    subst IsShortText (sym text) (two_digits (n / 10) (n % 10) high low)
+    subst IsShortText (sym (two_figures n small above)) (two_digits (n / 10) (n % 10) high low)
 
 pub short_decimal : (n : ℕ) → n < 100 → IsShortText (decimal n)
 short_decimal n small = by_size n small (cases_lt n 10)

@@ -18,15 +18,15 @@ use Rattle.evp_format.specs.Tree.{number_part}
 use Rattle.evp_format.specs.Typed.{EachElement, IsNumberOf, IsText, IsOf}
 use Rattle.evp_format.specs.ValueView.{elements_from}
 use Rattle.evp_profile.specs.declared.profile.Profile.{Profile}
-use Rattle.evp_profile.specs.declared.profile.Profile.TheVariants.{Le64, Le32, Be64, Be32}
 use Rattle.evp_profile.specs.Profile.{pointer_size}
 use Rattle.evp_gen.specs.Senders.{sent_layout, tag_of, element_of}
 use Rattle.evp_gen.specs.Senders.{sent_record}
 use Rattle.evp_gen.proofs.Decimals.{short_decimal}
+use Rattle.evp_gen.proofs.Pointers.{pointer_le}
 
 -- ---- the parts of a record
 
-abbrev tag_if : Bool → ℕ → Datum
+abbrev pub tag_if : Bool → ℕ → Datum
 tag_if b i = if b then null else text (decimal (i % 100))
 
 tag_typed : (b : Bool) (i : ℕ) → IsText (tag_if b i)
@@ -34,7 +34,7 @@ tag_typed true i = tt
 tag_typed false i = let short = short_decimal (i % 100) (omega arith) in
     (short.no_zero, short.are_bytes)
 
-count-elements : (f : ℕ → Datum) (xs : List ℕ) → count_of (elements_from (map f xs)) ≡ length xs
+pub count-elements : (f : ℕ → Datum) (xs : List ℕ) → count_of (elements_from (map f xs)) ≡ length xs
 count-elements f [] = refl
 count-elements f (x ∷ xs) = ap (λ (n : ℕ). suc n) (count-elements f xs)
 
@@ -111,28 +111,22 @@ IsShortTag (num z) = ⊥
 IsShortTag (list elements) = ⊥
 IsShortTag (rec entries) = ⊥
 
-pointer-le : (profile : Profile) → pointer_size profile ≤ 8
-pointer-le Le64 = omega arith
-pointer-le Le32 = omega arith
-pointer-le Be64 = omega arith
-pointer-le Be32 = omega arith
-
 small_with : (profile : Profile) (a b c : ℤ) (tag : Datum) (elements : Elements) → IsShortTag tag
     → count_of elements ≤ 3
     → packed_size (sent_layout profile) (record_with a b c tag elements) ≤ 64
-small_with profile a b c null empty_list short few = let pointer = pointer-le profile in omega
+small_with profile a b c null empty_list short few = let pointer = pointer_le profile in omega
     (arith, pointer)
-small_with profile a b c (text bytes) empty_list short few = let pointer = pointer-le profile in
+small_with profile a b c (text bytes) empty_list short few = let pointer = pointer_le profile in
     omega (arith, pointer, short)
 small_with profile a b c null (element value rest) short few =
-    let pointer = pointer-le profile in
+    let pointer = pointer_le profile in
     let at = next_block (8 + 3 * pointer_size profile) in
     subst (λ (size : ℕ). size ≤ 64)
     (sym (no_blocks (machine_of (sent_layout profile)) (λ k. at + k * 2) rest 1
     (at + suc (count_of rest) * 2)))
     (omega (arith, pointer, few))
 small_with profile a b c (text bytes) (element value rest) short few =
-    let pointer = pointer-le profile in
+    let pointer = pointer_le profile in
     let at = next_block (next_block (8 + 3 * pointer_size profile) + length bytes + 1) in
     subst (λ (size : ℕ). size ≤ 64)
     (sym (no_blocks (machine_of (sent_layout profile)) (λ k. at + k * 2) rest 1

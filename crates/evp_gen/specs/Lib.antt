@@ -1,7 +1,7 @@
 pub mod Formats
 pub mod Stones
 pub mod Document
-pub mod Pairs
 pub mod Senders
 pub mod Laws
+pub mod Packed
 pub mod Made

@@ -1,5 +1,5 @@
 -- What the four senders send: a file of n records each, in the sender's own layout.
-use Rattle.std.specs.Prelude.{◌≡◌, ℕ, ◌+◌, ◌*◌, ◌%◌, pos, ◌-ℤ◌, nat_eq, if◌then◌else◌, List, []}
+use Rattle.std.specs.Prelude.{ℕ, ◌+◌, ◌*◌, ◌%◌, pos, ◌-ℤ◌, nat_eq, if◌then◌else◌, List, []}
 use Rattle.std.specs.Prelude.{◌∷◌}
 use Rattle.std.specs.Prelude.{map, codes}
 use Rattle.std.specs.Fmt.{decimal}
@@ -68,10 +68,6 @@ sent_type pointer = record {
 abbrev pub sent_layout : Profile → Layout
 sent_layout profile =
     layout_with (byte_order profile) (pointer_size profile) (sent_type (pointer_size profile) ∷ [])
-
--- the layout of some sender
-abbrev pub IsSentLayout : Layout → Type 0
-IsSentLayout layout = (profile : Profile) × (layout ≡ sent_layout profile)
 
 -- ---- the records
 

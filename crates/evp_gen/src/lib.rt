@@ -4,10 +4,13 @@
 mod document;
 mod formats;
 mod laws;
+mod lists;
 mod made;
+mod put;
 mod records;
 mod senders;
 mod stones;
+mod tags;
 
 pub use laws::{sent_is_read, sent_is_short};
 pub use made::{Made, make};

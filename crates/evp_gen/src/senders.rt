@@ -2,19 +2,24 @@
 
 ghost use Rattle.std.specs.Prelude.{◌≡◌, ◌<◌, ◌≤◌, ◌^◌, ◌∷◌, ◌++◌, [], length, IfOk, OnOk, map};
 ghost use Rattle.std.specs.Prelude.{string_bytes};
-ghost use Rattle.std.specs.List.{range_with_len};
-ghost use Rattle.evp_format.specs.Packing.{pack};
+ghost use Rattle.std.specs.List.{flat_map, range_with_len};
+ghost use Rattle.evp_file.specs.Frames.{item_bytes};
 ghost use Rattle.evp_profile.specs.Declarations.{fields_declared, type_declared};
-ghost use Rattle.evp_gen.specs.Senders.{declared_field, sent_declared, sent_layout, IsSentLayout};
-ghost use Rattle.evp_gen.specs.Senders.{sent_record, sent_item, sent_file, sent_bytes};
+ghost use Rattle.evp_gen.specs.Senders.{declared_field, sent_declared, sent_layout, sent_item};
+ghost use Rattle.evp_gen.specs.Senders.{sent_bytes};
 
-use crate::records::sent_record;
+use crate::records::pack_sent;
 use evp_base::Memory;
-use evp_file::{FileFormat, FileFormats, FileItem, FileItems, RecordBytes, RecordFile, write_file};
+use evp_file::{FileFormat, begin_file, end_file, put_record};
 use evp_format::Format;
 use evp_profile::{Decl, Profile, TypeDecl, lay_out};
-use evp_record::pack;
 use std::alloc::Global;
+
+/// The most bytes of a record.
+const LONGEST_RECORD: usize = 64;
+
+/// The most bytes of a record's frame.
+const LONGEST_FRAME: usize = 71;
 
 /// The file of n records of the sender of this number, whose machine has this profile.
 pub(crate) fn sent_bytes(
@@ -27,13 +32,11 @@ pub(crate) fn sent_bytes(
     requires few { n ≤ 20000 }
     ensures { IfOk result (λ bytes. bytes.items ≡ sent_bytes profile sender n) }
 {
-    let format = sent_format(alloc, profile)?;
-    let items = sent_items(alloc, &format, sender, n)?;
-    let file = RecordFile {
-        formats: FileFormats::from_vec(vec![in alloc; FileFormat::Own(format)]?),
-        items,
-    };
-    write_file(alloc, &file, &[])
+    let formats = [FileFormat::Own(sent_format(alloc, profile)?)];
+    let mut out = begin_file(alloc, &[], &formats)?;
+    put_records(&mut out, alloc, profile, sender, n)?;
+    end_file(&mut out)?;
+    Ok(out)
 }
 
 // The layout for the machine of this profile. It is laid out unless there is no memory.
@@ -84,32 +87,41 @@ fn push_field(
     Ok(())
 }
 
-// The sender's records.
-fn sent_items(alloc: Global, format: &Format, sender: u32, n: u32) -> Result<FileItems, Memory>
-    requires layout { IsSentLayout format.now }
+// The frames of the sender's records.
+fn put_records(
+    out: &mut Vec<u8>,
+    alloc: Global,
+    profile: Profile,
+    sender: u32,
+    n: u32,
+) -> Result<(), Memory>
     requires sender { sender < 4 }
     requires few { n ≤ 20000 }
-    ensures { IfOk result
-        (λ items. items ≡ map (sent_item format.now sender) (range_with_len 0 n)) }
+    ensures { OnOk result
+        (out.new.items ≡ out.old.items ++ flat_map item_bytes
+        (map (sent_item (sent_layout profile) sender) (range_with_len 0 n))) }
 {
-    let mut items = FileItems::from_vec(Vec::with_capacity(alloc, n as usize)?);
+    out.reserve(n as usize * LONGEST_FRAME)?;
+    let mut packed = Vec::with_capacity(alloc, LONGEST_RECORD)?;
     for index in 0..n {
-        let bytes = packed_record(alloc, format, sender, index)?;
-        items.push(FileItem {
-            format: 0,
-            bytes: RecordBytes::from_vec(bytes),
-        })?;
+        put_sent(out, &mut packed, profile, sender, index)?;
     }
-    Ok(items)
+    Ok(())
 }
 
-// A record's bytes.
-fn packed_record(alloc: Global, format: &Format, sender: u32, index: u32) -> Result<Vec<u8>, Memory>
-    requires layout { IsSentLayout format.now }
+// The frame of one record, which is packed into that room.
+fn put_sent(
+    out: &mut Vec<u8>,
+    packed: &mut Vec<u8>,
+    profile: Profile,
+    sender: u32,
+    index: u32,
+) -> Result<(), Memory>
     requires sender { sender < 4 }
     requires index { index < 20000 }
-    ensures { IfOk result (λ bytes. bytes.items ≡ pack format.now (sent_record sender index)) }
+    ensures { OnOk result (out.new.items ≡ out.old.items
+        ++ item_bytes (sent_item (sent_layout profile) sender index)) }
 {
-    let value = sent_record(alloc, sender, index)?;
-    pack(alloc, format, &value)
+    pack_sent(packed, profile, sender, index)?;
+    put_record(out, 0, packed.as_slice())
 }

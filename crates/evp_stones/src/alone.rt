@@ -45,7 +45,7 @@ fn answer<D: Depot, K: Sink>(alloc: Global, words: &[String], depot: &mut D, sin
         return refuse_words(sink);
     };
     let worked = work(alloc, line, depot);
-    put_reply(&worked, sink)
+    put_reply(worked, sink)
 }
 
 // Writes that the words are no line, and answers the status.

@@ -16,6 +16,7 @@ use evp_crew::Gate;
 use hashing::report_digest;
 use made_job::made_job;
 use std::alloc::Global;
+use std::mem;
 use std::sync::Wait;
 use std::thread::Threads;
 pub use summary::Summary;
@@ -37,7 +38,10 @@ pub fn bench<R: Threads + Wait + Sync, G: Gate + Sync>(
 {
     let job = made_job(alloc, records)?;
     let carried = Carried::by_workers(rt, alloc, job, workers, gate)?;
-    Ok(summary_of(records, &carried))
+    let summary = summary_of(records, &carried);
+    // The program ends soon, and then all memory goes back at once.
+    mem::forget(carried);
+    Ok(summary)
 }
 
 // What is told of a job that was carried.

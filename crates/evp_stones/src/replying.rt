@@ -13,10 +13,21 @@ use crate::output::Output;
 use crate::refusal::Refusal;
 use evp_depot::{PutFault, Sink};
 use evp_report::Pieces;
+use std::mem;
 
 /// Writes what was worked out, or the line of the refusal, and answers the program's status. It
-/// takes no memory.
-pub fn put_reply<K: Sink>(worked: &Result<Output, Refusal>, sink: &mut K) -> u8
+/// takes no memory, and gives none back: the program ends behind it, which gives all back at once,
+/// where letting go of each record of a large job takes as long as making them.
+pub fn put_reply<K: Sink>(worked: Result<Output, Refusal>, sink: &mut K) -> u8
+    ensures { Tells K.faults K.put sink.old sink.new (seen_by output_text worked) result }
+{
+    let status = tell(&worked, sink);
+    mem::forget(worked);
+    status
+}
+
+// Writes it, and answers the status.
+fn tell<K: Sink>(worked: &Result<Output, Refusal>, sink: &mut K) -> u8
     ensures { Tells K.faults K.put sink.old sink.new (seen_by output_text worked.now) result }
 {
     match worked {

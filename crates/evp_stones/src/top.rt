@@ -55,11 +55,11 @@ fn answer<R: Threads + Wait + Sync, D: Depot, K: Sink, G: Gate + Sync>(
     match line_of(words) {
         Some(Line::Run(job, workers)) => {
             let worked = reported(rt, alloc, depot, job, workers, gate);
-            put_reply(&worked, sink)
+            put_reply(worked, sink)
         }
         Some(Line::Bench(records, workers)) => {
             let worked = summed(rt, alloc, records, workers, gate);
-            put_reply(&worked, sink)
+            put_reply(worked, sink)
         }
         Some(Line::Show(_) | Line::Check(_) | Line::Walk(_, _) | Line::Convert(_, _, _)) | None => {
             alone(alloc, words, depot, sink)

@@ -4,11 +4,9 @@ use Rattle.evp_file.proofs.writing.write_file.Goals as goal
 pub returns : goal.returns
 returns c =
     rw (
-      c.in_ok-push.ensures.items,
+      c.in_ok-end_file.ensures,
       c.in_ok-put_items.ensures,
-      c.in_ok-put_formats.ensures,
-      c.in_ok-extend_from_slice.ensures.items,
-      c.new-out.ensures.items,
+      c.in_ok-out.ensures,
       c.as_slice.ensures,
       c.as_slice-2.ensures,
     )

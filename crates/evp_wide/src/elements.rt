@@ -1,5 +1,5 @@
 //! Arrays moved element by element, sixteen bytes at a time where there are so many.
-ghost use Rattle.std.specs.Prelude.{◌≡◌, ◌+◌, ◌*◌, ◌<◌, ◌≤◌, true, length, take, flat_map};
+ghost use Rattle.std.specs.Prelude.{◌≡◌, ◌+◌, ◌*◌, ◌<◌, ◌≤◌, ℕ, true, length, take, flat_map};
 ghost use Rattle.evp_wide.specs.Gathered.{gathered};
 ghost use Rattle.evp_wide.specs.Groups.{groups};
 ghost use Rattle.evp_wide.specs.Masks.{are_within, repeated};
@@ -24,7 +24,22 @@ pub(crate) struct Mover {
     ghost repeats: { mask ≡ repeated count from_size (take out_size mask) },
 }
 
+// How many blocks of sixteen bytes there are on both sides, where each of `from` begins `step` bytes
+// behind the one before.
+#[inline(always)]
+fn block_count(out: usize, from: usize, step: usize) -> usize
+    requires { 0 < step }
+    ensures out { result * 16 ≤ out }
+    ensures from { (k : ℕ) → k < result → k * step + 16 ≤ from }
+{
+    if from < 16 {
+        return 0;
+    }
+    (out / 16).min((from - 16) / step + 1)
+}
+
 // Makes elements while sixteen bytes are left on both sides, and tells how many.
+#[inline(always)]
 fn move_blocks(out: &mut [u8], from: &[u8], mover: &Mover) -> usize
     ensures length { length out.new ≡ length out.old }
     ensures within { result * mover.now.out_size ≤ length out.new }
@@ -34,16 +49,11 @@ fn move_blocks(out: &mut [u8], from: &[u8], mover: &Mover) -> usize
 {
     let step = mover.from_size * mover.count;
     let mask = u8x16::from_array(mover.mask);
-    let mut done = 0;
-    let mut out_at = 0;
-    let mut from_at = 0;
-    while out_at + 16 <= out.len() && from_at + 16 <= from.len() {
-        gather_lanes(out, out_at, from, from_at, mask);
-        out_at += 16;
-        from_at += step;
-        done += mover.count;
+    let blocks = block_count(out.len(), from.len(), step);
+    for block in 0..blocks {
+        gather_lanes(out, block * 16, from, block * step, mask);
     }
-    done
+    blocks * mover.count
 }
 
 // Makes the elements from number `done` on, one by one.
@@ -70,6 +80,7 @@ fn move_rest(out: &mut [u8], from: &[u8], mover: &Mover, done: usize, number: us
 }
 
 /// Makes all elements.
+#[inline(always)]
 pub(crate) fn move_elements(out: &mut [u8], from: &[u8], mover: &Mover, number: usize)
     requires out { length out.old ≡ number * mover.now.out_size }
     requires from { length from.now ≡ number * mover.now.from_size }

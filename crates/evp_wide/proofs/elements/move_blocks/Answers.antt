@@ -1,4 +1,7 @@
-use Rattle.std.proofs.Common.{◌*◌, ap, ◌∙◌, add-mul, mul_comm, arith}
+use Rattle.std.proofs.Common.{◌≡◌, ℕ, ◌+◌, ◌*◌, take, ap, sym, ◌∙◌, add-mul, mul_comm, mul_assoc, arith}
+use Rattle.std.specs.List.{flat_map}
+use Rattle.evp_wide.specs.Gathered.{gathered}
+use Rattle.evp_wide.specs.Groups.{groups}
 use Rattle.evp_wide.specs.Masks.{are_within}
 use Rattle.evp_wide.proofs.Blocks.{block_made, within_repeated, places_of, room_for}
 use Rattle.evp_wide.proofs.elements.move_blocks.Goals as goal
@@ -12,23 +15,25 @@ gather_lanes-requires-clause-mask c =
       c.type_inv.mask.0,
     )
 
-pub loop-out_at-preserved : goal.loop-out_at-preserved
-loop-out_at-preserved c =
+pub loop-block-preserved : goal.loop-block-preserved
+loop-block-preserved c =
     let m = c.args.mover.now in
-    let l = c.loop-out_at.invariant in
+    let k = c.loop-block.block in
+    let out = c.loop-block.out in
+    let from = c.args.from.now in
+    let places = take m.out_size m.mask in
     let room = room_for m.count m.out_size m.from_size m.whole m.shorter in
-    let out_more = add-mul c.loop-out_at.done m.count m.out_size in
-    let from_more = add-mul c.loop-out_at.done m.count m.from_size in
-    let turned = mul_comm m.from_size m.count in
     let same = c.gather_lanes.auto.out in
+    let long = c.loop-block.invariant.long in
+    let fits = c.block_count-blocks.ensures.out in
+    let below = c.loop-block-test.true in
+    let place : k * (m.from_size * m.count) ≡ k * m.count * m.from_size =
+    ap (λ (n : ℕ). k * n) (mul_comm m.from_size m.count) ∙ sym (mul_assoc k m.count m.from_size) in
+    let made = block_made out c.gather_lanes.new.out from m.mask _ m.from_size m.count (k * m.count) (k * 16) _ m.repeats m.within room
+    c.type_inv.mask.0 (omega (arith, long, fits, below)) place c.loop-block.invariant.made c.gather_lanes.ensures in
+    let next : (k + 1) * 16 ≡ k * 16 + 16 = omega arith in
     record {
       long = omega arith;
-      out_place = let whole = m.whole in omega arith;
-      from_place = omega arith;
-      within = omega arith;
-      before = omega arith;
-      made = block_made c.loop-out_at.out c.gather_lanes.new.out c.args.from.now m.mask _ m.from_size m.count c.loop-out_at.done
-          c.loop-out_at.out_at
-          c.loop-out_at.from_at m.repeats m.within room c.type_inv.mask.0 c.loop-out_at-test.true l.from_place l.made
-          c.gather_lanes.ensures;
+      made = ap (λ (n : ℕ). take n c.gather_lanes.new.out) next ∙ made
+          ∙ ap (λ (n : ℕ). flat_map (gathered places) (groups m.from_size n from)) (omega (arith, add-mul k 1 m.count));
     }

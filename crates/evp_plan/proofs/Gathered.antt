@@ -128,7 +128,7 @@ block_is signed from at offset (place ∷ places) (keep ∷ keeps) (constant ∷
     (byte_is signed from at offset place keep constant old (are 0 0 (omega arith)) parts.0)
     ∙ ap (λ (l : List ℕ). cell_value from at (blend_cell signed offset place keep constant) old ∷ l) rest
 
-gather_is : (signed : Bool) (from : List ℕ) (at offset to : ℕ) (places keeps constants out : List ℕ) → AreBytes out
+pub gather_is : (signed : Bool) (from : List ℕ) (at offset to : ℕ) (places keeps constants out : List ℕ) → AreBytes out
     → is_clean places keeps constants ≡ true
     → length places ≡ 16 → length keeps ≡ 16 → length constants ≡ 16 → to + 16 ≤ length out
     → take to out ++ (with_constant (with_kept (lanes signed places (drop (at + offset) from)) keeps (drop to out)) constants

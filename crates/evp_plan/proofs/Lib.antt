@@ -15,6 +15,7 @@ mod Tables
 pub mod NumberCells
 pub mod Painting
 pub mod Gathered
+mod OneGather
 pub mod Painted
 pub mod Compiled
 mod QuietExamples

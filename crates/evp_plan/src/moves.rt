@@ -4,7 +4,7 @@ ghost use Rattle.std.specs.Prelude.{◌≡◌, ◌+◌, ◌*◌, ◌≤◌, ◌<
 ghost use Rattle.std.specs.Prelude.{IfSome};
 ghost use Rattle.std.specs.List.{All};
 ghost use Rattle.evp_plan.specs.Cells.{painted_at, painted_each, AreMovesOver, IsMovesOf};
-ghost use Rattle.evp_plan.specs.Cells.{lanes, written, IsWholeOf, AreMovesOf};
+ghost use Rattle.evp_plan.specs.Cells.{lanes, written, gather_cells, IsWholeOf, AreMovesOf};
 
 use crate::compiling::{MOST, are_same, end_of, filled, lay_gathers, lay_steps, reach_of};
 use crate::gather::Gather;
@@ -65,6 +65,28 @@ fn run_gather(gather: &Gather, out: &mut [u8], t: usize, from: &[u8], at: usize)
     gather_blend(out, to, from, at, &gather.blend);
 }
 
+// Makes sixteen bytes of n records of `out`, each from one of the sender's records. It has a gather
+// of its own, which no write to `out` asks it to read again.
+#[inline(always)]
+fn run_gather_each(gather: Gather, out: &mut [u8], to: Series, from: &[u8], at: Series, n: usize)
+    requires window { (k : ℕ) → k < n
+        → at.first + k * at.apart + gather.at + 16 ≤ length from.now }
+    requires room { (k : ℕ) → k < n
+        → to.first + k * to.apart + gather.to + 16 ≤ length out.old }
+    ensures { out.new ≡ painted_each from.now at.first at.apart (to.first + gather.to) to.apart n
+        (gather_cells gather) out.old }
+{
+    for k in 0..n {
+        run_gather(
+            &gather,
+            out,
+            to.first + k * to.apart,
+            from,
+            at.first + k * at.apart,
+        );
+    }
+}
+
 impl Moves {
     /// How many bytes they make.
     pub fn length(&self) -> usize
@@ -95,6 +117,10 @@ impl Moves {
         ensures { out.new ≡ painted_each from.now at.first at.apart to.first to.apart n
             self.now.cells out.old }
     {
+        if self.gathers.len() == 1 {
+            run_gather_each(self.gathers[0], out, to, from, at, n);
+            return;
+        }
         for k in 0..n {
             self.run(out, to.first + k * to.apart, from, at.first + k * at.apart);
         }

@@ -2,3 +2,4 @@ pub mod Groups
 pub mod Gathered
 pub mod Elements
 pub mod Masks
+pub mod Blocks

@@ -1,30 +1,59 @@
 //! Arrays moved element by element, sixteen bytes at a time where there are so many.
-ghost use Rattle.std.specs.Prelude.{◌≡◌, ◌+◌, ◌*◌, ◌<◌, ◌≤◌, true, length, take, flat_map};
+ghost use Rattle.std.specs.Prelude.{◌≡◌, ◌+◌, ◌*◌, ◌<◌, ◌≤◌, ℕ, length, take, flat_map};
 ghost use Rattle.evp_wide.specs.Gathered.{gathered};
 ghost use Rattle.evp_wide.specs.Groups.{groups};
-ghost use Rattle.evp_wide.specs.Masks.{are_within, repeated};
+ghost use Rattle.evp_wide.specs.Blocks.{AreMade};
 
 use crate::lanes::{gather_few, gather_lanes};
+use crate::mover::Mover;
 use std::simd::prelude::*;
 
-/// How each element of an answer is made from one of another size: by the mask's first places,
-/// which come again for each further element in sixteen bytes of the answer.
-#[derive(Clone, Copy)]
-pub(crate) struct Mover {
-    pub(crate) out_size: usize,
-    pub(crate) from_size: usize,
-    /// How many elements there are in sixteen bytes of the answer.
-    pub(crate) count: usize,
-    pub(crate) mask: [u8; 16],
-    ghost sixteen: { length mask ≡ 16 },
-    ghost whole: { count * out_size ≡ 16 },
-    ghost some: { 0 < from_size },
-    ghost shorter: { from_size ≤ out_size },
-    ghost within: { are_within from_size (take out_size mask) ≡ true },
-    ghost repeats: { mask ≡ repeated count from_size (take out_size mask) },
+// How many blocks of sixteen bytes there are on both sides, where each of `from` begins `step` bytes
+// behind the one before.
+#[inline(always)]
+fn block_count(out: usize, from: usize, step: usize) -> usize
+    requires { 0 < step }
+    ensures out { result * 16 ≤ out }
+    ensures from { (k : ℕ) → k < result → k * step + 16 ≤ from }
+{
+    if from < 16 {
+        return 0;
+    }
+    (out / 16).min((from - 16) / step + 1)
+}
+
+// Makes the elements of a block, where those of the blocks before it stand.
+#[inline(always)]
+fn move_block(out: &mut [u8], from: &[u8], mover: &Mover, block: usize)
+    requires out { block * 16 + 16 ≤ length out.old }
+    requires from { block * (mover.now.from_size * mover.now.count) + 16 ≤ length from.now }
+    requires before { AreMade mover.now from.now block out.old }
+    ensures { AreMade mover.now from.now (block + 1) out.new }
+{
+    let step = mover.from_size * mover.count;
+    let mask = u8x16::from_array(mover.mask);
+    gather_lanes(out, block * 16, from, block * step, mask);
+}
+
+// Makes the elements of so many times four blocks: a loop of single ones is as slow as the processor
+// begins loops.
+#[inline(always)]
+fn move_fours(out: &mut [u8], from: &[u8], mover: &Mover, fours: usize)
+    requires out { fours * 4 * 16 ≤ length out.old }
+    requires from { (k : ℕ) → k < fours * 4
+        → k * (mover.now.from_size * mover.now.count) + 16 ≤ length from.now }
+    ensures { AreMade mover.now from.now (fours * 4) out.new }
+{
+    for four in 0..fours {
+        move_block(out, from, mover, four * 4);
+        move_block(out, from, mover, four * 4 + 1);
+        move_block(out, from, mover, four * 4 + 2);
+        move_block(out, from, mover, four * 4 + 3);
+    }
 }
 
 // Makes elements while sixteen bytes are left on both sides, and tells how many.
+#[inline(always)]
 fn move_blocks(out: &mut [u8], from: &[u8], mover: &Mover) -> usize
     ensures length { length out.new ≡ length out.old }
     ensures within { result * mover.now.out_size ≤ length out.new }
@@ -32,18 +61,13 @@ fn move_blocks(out: &mut [u8], from: &[u8], mover: &Mover) -> usize
         ≡ flat_map (gathered (take mover.now.out_size mover.now.mask))
         (groups mover.now.from_size result from.now) }
 {
-    let step = mover.from_size * mover.count;
-    let mask = u8x16::from_array(mover.mask);
-    let mut done = 0;
-    let mut out_at = 0;
-    let mut from_at = 0;
-    while out_at + 16 <= out.len() && from_at + 16 <= from.len() {
-        gather_lanes(out, out_at, from, from_at, mask);
-        out_at += 16;
-        from_at += step;
-        done += mover.count;
+    let blocks = block_count(out.len(), from.len(), mover.from_size * mover.count);
+    let fours = blocks / 4;
+    move_fours(out, from, mover, fours);
+    for block in fours * 4..blocks {
+        move_block(out, from, mover, block);
     }
-    done
+    blocks * mover.count
 }
 
 // Makes the elements from number `done` on, one by one.
@@ -70,6 +94,7 @@ fn move_rest(out: &mut [u8], from: &[u8], mover: &Mover, done: usize, number: us
 }
 
 /// Makes all elements.
+#[inline(always)]
 pub(crate) fn move_elements(out: &mut [u8], from: &[u8], mover: &Mover, number: usize)
     requires out { length out.old ≡ number * mover.now.out_size }
     requires from { length from.now ≡ number * mover.now.from_size }

@@ -3,6 +3,7 @@
 
 mod elements;
 mod lanes;
+mod mover;
 mod orders;
 mod swap;
 mod widen;

@@ -2,7 +2,8 @@
 ghost use Rattle.std.specs.Prelude.{◌≡◌, ◌%◌, length};
 ghost use Rattle.evp_wide.specs.Elements.{swapped};
 
-use crate::elements::{Mover, move_elements};
+use crate::elements::move_elements;
+use crate::mover::Mover;
 
 /// Each two bytes of `from`, reversed. Takes no memory.
 pub fn swap2(out: &mut [u8], from: &[u8])

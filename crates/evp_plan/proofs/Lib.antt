@@ -16,6 +16,7 @@ pub mod NumberCells
 pub mod Painting
 pub mod Gathered
 mod OneGather
+mod Plain
 pub mod Painted
 pub mod Compiled
 mod QuietExamples

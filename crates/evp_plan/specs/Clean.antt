@@ -1,6 +1,7 @@
 -- Gathers that do one thing at each byte.
-use Rattle.std.specs.Prelude.{ℕ, Bool, true, false, ◌&&◌, ◌||◌, nat_lt, nat_le, nat_eq, List, []}
+use Rattle.std.specs.Prelude.{◌≡◌, ℕ, replicate, Bool, true, false, ◌&&◌, ◌||◌, nat_lt, nat_le, nat_eq, List, []}
 use Rattle.std.specs.Prelude.{◌∷◌}
+use Rattle.evp_wide.specs.declared.lanes.Blend.{Blend}
 
 -- each byte is picked, kept or a constant, and no two of these
 abbrev pub is_clean_byte : ℕ → ℕ → ℕ → Bool
@@ -14,3 +15,9 @@ is_clean (place ∷ places) [] constants = false
 is_clean (place ∷ places) (keep ∷ keeps) [] = false
 is_clean (place ∷ places) (keep ∷ keeps) (constant ∷ constants) = is_clean_byte place keep constant
     && is_clean places keeps constants
+
+-- what is picked is bytes, and nothing is kept or set
+pub record IsPlain (signed : Bool) (blend : Blend) : Type 0 where
+  pub bytes : signed ≡ false
+  pub none_kept : blend.keep ≡ replicate 16 0
+  pub none_set : blend.constant ≡ replicate 16 0

@@ -1,7 +1,7 @@
 //! Sixteen bytes of a receiver's record made at once.
 
 ghost use Rattle.std.specs.Prelude.{◌≡◌, true};
-ghost use Rattle.evp_plan.specs.Clean.{is_clean};
+ghost use Rattle.evp_plan.specs.Clean.{is_clean, IsPlain};
 
 use evp_wide::Blend;
 
@@ -15,6 +15,9 @@ pub(crate) struct Gather {
     pub(crate) at: u32,
     // Whether the signs of the window's bytes are picked, and not the bytes.
     pub(crate) signed: bool,
+    // Whether it writes the bytes that it picks alone.
+    pub(crate) plain: bool,
     pub(crate) blend: Blend,
+    ghost alone: { plain ≡ true → IsPlain signed blend },
     ghost clean: { is_clean blend.mask.places blend.keep blend.constant ≡ true },
 }

@@ -3,7 +3,7 @@
 ghost use Rattle.std.specs.Prelude.{◌≡◌, ◌+◌, ◌<◌, ◌≤◌, ◌^◌, true, length, IfOk, OnOk, IfSome};
 ghost use Rattle.std.specs.List.{All};
 ghost use Rattle.evp_plan.specs.Cells.{IsGatherWithin};
-ghost use Rattle.evp_plan.specs.Clean.{is_clean, is_clean_byte};
+ghost use Rattle.evp_plan.specs.Clean.{is_clean, is_clean_byte, IsPlain};
 
 use crate::Cell;
 use crate::gather::Gather;
@@ -78,12 +78,21 @@ fn gather_for(block: &[Cell], to: u32, at: u32, signed: bool) -> Option<Gather>
 {
     let sixteen = sixteen_of(block, at, signed);
     let blend = blend_of(&sixteen.places, &sixteen.keep, &sixteen.constant)?;
+    let plain = is_plain(signed, &blend);
     Some(Gather {
         to,
         at,
         signed,
+        plain,
         blend,
     })
+}
+
+// Whether what is picked is bytes, and nothing is kept or set.
+fn is_plain(signed: bool, blend: &Blend) -> bool
+    ensures { result ≡ true → IsPlain signed blend.now }
+{
+    !signed && blend.keep == [0; 16] && blend.constant == [0; 16]
 }
 
 // What a gather does that does one thing at each byte.

@@ -58,6 +58,10 @@ fn run_gather(gather: &Gather, out: &mut [u8], t: usize, from: &[u8], at: usize)
 {
     let to = t + gather.to as usize;
     let at = at + gather.at as usize;
+    if gather.plain {
+        evp_wide::gather(out, to, from, at, &gather.blend.mask);
+        return;
+    }
     if gather.signed {
         gather_signs(out, to, from, at, &gather.blend);
         return;

@@ -12,6 +12,7 @@ mod Readiness
 mod Sent
 mod Sounds
 mod Tables
+pub mod FittingWords
 pub mod NumberCells
 pub mod Painting
 pub mod Gathered

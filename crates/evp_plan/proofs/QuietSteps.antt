@@ -38,7 +38,7 @@ use Rattle.evp_plan.proofs.Defaults.{range_test}
 
 -- ---- ranges
 
-length_cut : (bytes : List ℕ) (at size : ℕ) → at + size ≤ length bytes → length (bytes_at at size bytes) ≡ size
+pub length_cut : (bytes : List ℕ) (at size : ℕ) → at + size ≤ length bytes → length (bytes_at at size bytes) ≡ size
 length_cut bytes at size within =
     let left = length-drop at bytes in
     let taken = length-take size (drop at bytes) in

@@ -1,3 +1,4 @@
+pub mod Among
 pub mod Building
 pub mod Cells
 pub mod Clean
@@ -8,7 +9,9 @@ pub mod Measuring
 pub mod Moving
 pub mod Planned
 pub mod Program
+pub mod Quicks
 pub mod Quiet
 pub mod Ready
 pub mod Sound
 pub mod Standing
+pub mod Words

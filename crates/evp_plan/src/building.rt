@@ -7,6 +7,7 @@ ghost use Rattle.evp_plan.specs.Counts.{raised};
 ghost use Rattle.evp_plan.specs.Faults.{IsBuildFault};
 ghost use Rattle.evp_plan.specs.Planned.{StandsFor};
 
+use crate::fitting::all_quick;
 use crate::moves::{all_moves, whole_of};
 use crate::quiet::tests_in;
 use crate::table::table_of;
@@ -52,6 +53,7 @@ fn plan_of(alloc: Global, from: &Format, to: &Format) -> Result<Plan, Memory>
     let last = table[table.len() - 1].as_slice();
     let whole = whole_of(alloc, to.order(), from.order(), last, to.root().length)?;
     let tests = tests_in(alloc, table.as_slice())?;
+    let quick = all_quick(alloc, tests[tests.len() - 1].as_slice())?;
     let alike = *from == *to;
-    Ok(Plan::new(to, table, alike, from.order(), moves, whole, tests))
+    Ok(Plan::new(to, table, alike, from.order(), moves, whole, tests, quick))
 }

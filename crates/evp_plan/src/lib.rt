@@ -6,14 +6,17 @@ mod building;
 mod builds;
 mod cell;
 mod compiling;
+mod fitting;
 mod gather;
 mod gathering;
 mod matching;
 mod moves;
 mod plan;
+mod quick;
 mod quiet;
 mod step;
 mod table;
+mod words;
 
 pub use build_fault::BuildFault;
 pub use building::build;
@@ -21,7 +24,9 @@ pub use builds::Builds;
 pub use cell::Cell;
 pub use moves::{Moves, Series};
 pub use plan::Plan;
+pub use quick::Quick;
 pub use step::{Elements, Op, Origin, Part, Run, Source, Step, Steps, Task};
+pub use words::Words;
 
 #[cfg(test)]
 mod tests;

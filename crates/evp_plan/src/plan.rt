@@ -1,11 +1,13 @@
 //! Plans.
 
 ghost use Rattle.std.specs.Prelude.{◌≡◌, ◌<◌, ◌≤◌, [], length, get_or, IfSome};
+ghost use Rattle.std.specs.List.{All};
 ghost use Rattle.evp_plan.specs.Cells.{IsMovesOf, AreMovesOf, IsWholeOf};
 ghost use Rattle.evp_plan.specs.Program.{IsOrdered, programs, last_steps};
 ghost use Rattle.evp_plan.specs.Quiet.{tests_of, tests_in};
+ghost use Rattle.evp_plan.specs.Quicks.{steps_in, IsFit};
 
-use crate::{Moves, Step, Steps};
+use crate::{Moves, Quick, Step, Steps};
 use evp_base::Order;
 use evp_format::Format;
 use std::marker::Model;
@@ -26,14 +28,18 @@ pub struct Plan {
     whole: Option<Moves>,
     // For each list of steps those that can refuse something or take a block.
     tests: Vec<Steps>,
+    // Those of the last list, with quick tests.
+    quick: Vec<Quick>,
 }
 
 impl Model for Plan {
     ghost use Rattle.std.specs.Prelude.{◌≡◌, ◌≤◌, length, IfSome};
+    ghost use Rattle.std.specs.List.{All};
     ghost use Rattle.evp_plan.specs.Planned.{Planned};
     ghost use Rattle.evp_plan.specs.Program.{IsOrdered, last_steps};
     ghost use Rattle.evp_plan.specs.Cells.{AreMovesOf, IsWholeOf};
     ghost use Rattle.evp_plan.specs.Quiet.{tests_in};
+    ghost use Rattle.evp_plan.specs.Quicks.{steps_in, IsFit};
 
     ghost Value = { Planned };
 
@@ -48,7 +54,9 @@ impl Model for Plan {
     ghost invariant = { λ p. IsOrdered p.table.items × ((1 ≤ length p.table.items)
         × (AreMovesOf p.sender p.order p.table.items p.moves.items
         × (IfSome p.whole (IsWholeOf p.sender p.order (last_steps p.table.items))
-        × (p.tests.items ≡ tests_in p.table.items)))) };
+        × ((p.tests.items ≡ tests_in p.table.items)
+        × ((steps_in p.quick.items ≡ last_steps p.tests.items)
+        × All IsFit p.quick.items))))) };
 }
 
 impl Plan {
@@ -63,12 +71,15 @@ impl Plan {
         moves: Vec<Option<Moves>>,
         whole: Option<Moves>,
         tests: Vec<Steps>,
+        quick: Vec<Quick>,
     ) -> Self
         requires ordered { IsOrdered table.items }
         requires some { 1 ≤ length table.items }
         requires made { AreMovesOf sender to.now.order table.items moves.items }
         requires all { IfSome whole (IsWholeOf sender to.now.order (last_steps table.items)) }
         requires tests { tests.items ≡ tests_in table.items }
+        requires quick { steps_in quick.items ≡ last_steps tests.items }
+        requires fit { All IsFit quick.items }
         ensures { result ≡ planned_of to.now table.items alike }
     {
         Plan {
@@ -81,6 +92,7 @@ impl Plan {
             moves,
             whole,
             tests,
+            quick,
         }
     }
 
@@ -123,6 +135,18 @@ impl Plan {
         ensures ordered { IsOrdered self.now.table }
     {
         self.tests[number].as_slice()
+    }
+
+    /// The steps of the last list that can refuse something or take a block, in their order, with
+    /// quick tests.
+    pub fn quick(&self) -> &[Quick]
+        ensures tests { steps_in result.now ≡ tests_of (programs self.now.table)
+            (last_steps self.now.table) }
+        ensures fit { All IsFit result.now }
+        ensures ordered { IsOrdered self.now.table }
+        ensures some { 1 ≤ length self.now.table }
+    {
+        self.quick.as_slice()
     }
 
     /// Whether the two formats are equal.

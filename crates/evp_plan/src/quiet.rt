@@ -77,7 +77,7 @@ impl Part {
 }
 
 // Whether the kind may have that size.
-fn is_size_of(kind: Kind, size: u32) -> bool
+pub(crate) fn is_size_of(kind: Kind, size: u32) -> bool
     ensures { result ≡ is_size_of kind size }
 {
     let is_width = size == 1 || (size == 2 || (size == 4 || size == 8));

@@ -1,32 +1,39 @@
 -- What refuses nothing: texts, counted arrays, steps, and lists of them.
-use Rattle.std.proofs.Common.{◌≡◌, ℕ, ◌+◌, ◌<◌, ◌≤◌, pos, Bool, true, false, not, List, [], ◌∷◌, ◌++◌, length, drop, get_or, Option, Some, None}
-use Rattle.std.proofs.Common.{Ok, refl, sym, ap, ◌∙◌, arith}
-use Rattle.std.specs.Prelude.{IfSome}
+use Rattle.std.proofs.Common.{◌≡◌, ℕ, zero, suc, ◌+◌, ◌-◌, ◌<◌, ◌≤◌, pos, Bool, true, false, not, List, [], ◌∷◌, ◌++◌, length, drop}
+use Rattle.std.proofs.Common.{get_or, Option, Some, None, Ok, refl, sym, ap, ◌∙◌, subst, arith}
+use Rattle.std.specs.Prelude.{IfSome, slice_get}
 use Rattle.std.proofs.lemmas.Bool.{le-ltb}
-use Rattle.evp_base.specs.declared.kind.Kind.{Kind}
+use Rattle.evp_base.specs.Numbers.{magnitude}
 use Rattle.evp_base.proofs.Digits.{AreBytes}
-use Rattle.evp_format.specs.Bytes.{next_block}
+use Rattle.evp_format.specs.Bytes.{bytes_at, next_block}
 use Rattle.evp_format.specs.Converting.{Made, made, make_text, unless_unfit}
 use Rattle.evp_format.specs.Datum.{Datum}
 use Rattle.evp_format.specs.declared.place.PlaceStep.{PlaceStep}
 use Rattle.evp_format.specs.declared.place.PlaceStep.TheVariants.{At}
 use Rattle.evp_format.specs.Viewing.{Image}
+use Rattle.evp_plan.specs.declared.quick.Quick.{Quick}
 use Rattle.evp_plan.specs.declared.step.Elements.{Elements}
 use Rattle.evp_plan.specs.declared.step.Op.{Op}
-use Rattle.evp_plan.specs.declared.step.Op.TheVariants.{Number, Text, Many}
+use Rattle.evp_plan.specs.declared.step.Op.TheVariants.{Text, Many}
 use Rattle.evp_plan.specs.declared.step.Origin.{Origin}
 use Rattle.evp_plan.specs.declared.step.Step.{Step}
+use Rattle.evp_plan.specs.declared.words.Words.{Words}
+use Rattle.evp_plan.specs.Among.{is_among}
 use Rattle.evp_plan.specs.Measuring.{op_fits, sized, tested, measured, measured_op, measured_run}
 use Rattle.evp_plan.specs.Measuring.{has_other_count}
 use Rattle.evp_plan.specs.Planned.{Planned}
-use Rattle.evp_plan.specs.Program.{programs, program_of, program_at}
-use Rattle.evp_plan.specs.Quiet.{is_quiet, is_quiet_part}
+use Rattle.evp_plan.specs.Program.{programs, program_of, program_at, last_steps, IsOrdered}
+use Rattle.evp_plan.specs.Quicks.{steps_in}
+use Rattle.evp_plan.specs.Quiet.{is_quiet, is_quiet_part, tests_of}
+use Rattle.evp_plan.specs.Ready.{IsReady}
 use Rattle.evp_plan.specs.Standing.{ended, text_by, origin_number}
+use Rattle.evp_plan.specs.Words.{AreWordsFor}
+use Rattle.evp_plan.proofs.FittingWords.{words_inside, words_fit, words_measured}
 use Rattle.evp_runner.specs.Outcome.{outcome, verdict, step_verdict, sized_nothing, room_for}
 use Rattle.evp_runner.specs.Passable.{TextPasses, ListPasses, StepPasses}
-use Rattle.evp_runner.specs.StepIn.{inside, CanRun, CanList}
+use Rattle.evp_runner.specs.StepIn.{inside, CanRun, CanStep, CanList}
 use Rattle.evp_runner.proofs.Measured.{outcome_ok, many_by, elements_taken, rest_made, tested_next, tested_end, made_next, made_end}
-use Rattle.evp_runner.proofs.Quieted.{Tested, tests_made, quiet_list}
+use Rattle.evp_runner.proofs.Quieted.{Tested, tested_list, tests_made, quiet_list}
 
 -- ---- texts
 
@@ -68,15 +75,27 @@ list_if plan limit image step origin elements at n size (Some end) can wanted sa
 
 -- ---- steps
 
-pub number_passes : (plan : Planned) (limit : ℕ) (image : Image) (step : Step) (at size : ℕ) (kind : Kind) (origin : Origin)
-    → step.task.op ≡ Number kind origin → op_fits image at step.task.size (Number kind origin) ≡ true
+-- a single number whose word is one of those that fit
+pub words_pass : (plan : Planned) (limit : ℕ) (image : Image) (step : Step) (at size : ℕ) (found : Option Words) (words : Words)
+    → found ≡ Some words → IfSome found (AreWordsFor step.task.size step.task.op) → CanStep plan image step at 0 → AreBytes image.bytes
+    → is_among words.top words.under (magnitude image.order (bytes_at (at + words.offset) words.size image.bytes)) ≡ true
     → StepPasses plan limit image step at size size
-number_passes plan limit image step at size kind origin is fits =
+words_pass plan limit image step at size found words is known can are among =
+    let For : Option Words → Type 0 = λ o. IfSome o (AreWordsFor step.task.size step.task.op) in
+    let fit = subst For is known in
     record {
-      fits = ap (op_fits image at step.task.size) is ∙ fits;
-      sizes = λ place. ap (λ (o : Op). measured_op limit image step.task.size o
-          (λ place' s later. measured limit image (inside plan step) place' s later) place at size) is;
+      fits = words_fit image at step.task.size step.task.op words (λ s. IsReady image (inside plan step) s) fit can.ready are among;
+      sizes = λ place. words_measured limit image step.task.size step.task.op words
+          (λ place' s later. measured limit image (inside plan step) place' s later) place at size fit;
     }
+
+-- its word stands inside the bytes
+pub words_there : (plan : Planned) (image : Image) (step : Step) (at : ℕ) (found : Option Words) (words : Words) → found ≡ Some words
+    → IfSome found (AreWordsFor step.task.size step.task.op) → CanStep plan image step at 0
+    → at + words.offset + words.size ≤ length image.bytes
+words_there plan image step at found words is known can =
+    let For : Option Words → Type 0 = λ o. IfSome o (AreWordsFor step.task.size step.task.op) in
+    words_inside image at step.task.size step.task.op words (λ s. IsReady image (inside plan step) s) (subst For is known) can.ready
 
 pub text_passes : (plan : Planned) (limit : ℕ) (image : Image) (step : Step) (at offset size end : ℕ) → step.task.op ≡ Text (Some offset)
     → TextPasses limit image (at + offset) size end → StepPasses plan limit image step at size end
@@ -112,6 +131,31 @@ fitting : (image : Image) (at : ℕ) (step : Step) (place : List PlaceStep) → 
     → step_verdict image at step place ≡ Ok tt
 fitting image at step place fits =
     ap (λ (b : Bool). verdict (unless_unfit (not b) (place ++ At step.task.field ∷ []) (λ _. sized_nothing 0))) fits
+
+-- the step of test k
+step_at : (tests : List Quick) (k : ℕ) (d : Quick) (e : Step) → k < length tests → (get_or tests k d).step ≡ get_or (steps_in tests) k e
+step_at [] k d e below = absurd (omega (arith, below))
+step_at (test ∷ tests) zero d e below = refl
+step_at (test ∷ tests) (suc k) d e below = step_at tests k d e (omega (arith, below))
+
+step_found : (tests : List Quick) (k : ℕ) (d : Quick) → k < length tests → slice_get (steps_in tests) k ≡ Some (get_or tests k d).step
+step_found [] k d below = absurd (omega (arith, below))
+step_found (test ∷ tests) zero d below = refl
+step_found (test ∷ tests) (suc k) d below = step_found tests k d (omega (arith, below))
+
+pub own_step : (tests : List Quick) (k : ℕ) (test : Quick) → k < length tests → test ≡ get_or tests k test
+    → test.step ≡ get_or (steps_in tests) k test.step
+own_step tests k test below is = ap (λ (t : Quick). t.step) is ∙ step_at tests k test test.step below
+
+pub step_there : (tests : List Quick) (k : ℕ) (test : Quick) → k < length tests → test ≡ get_or tests k test
+    → slice_get (steps_in tests) k ≡ Some test.step
+step_there tests k test below is = step_found tests k test below ∙ ap (λ (t : Quick). Some t.step) (sym is)
+
+-- the steps of the last list that are tested
+pub last_tested : (plan : Planned) (tests : List Quick) → IsOrdered plan.table → 1 ≤ length plan.table
+    → steps_in tests ≡ tests_of (programs plan.table) (last_steps plan.table)
+    → Tested plan (length plan.table - 1) (steps_in tests)
+last_tested plan tests ordered some are = tested_list plan (length plan.table - 1) (steps_in tests) ordered (omega (arith, some)) are
 
 -- what is left of the steps finds what all of them find
 pub record PassesSoFar (plan : Planned) (limit : ℕ) (image : Image) (steps : List Step) (at start k size : ℕ) : Type 0 where

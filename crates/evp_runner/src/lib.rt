@@ -1,9 +1,12 @@
 //! Conversions of records by plans, from bytes to bytes.
 #![tactic(auto)]
 
+mod blocks;
 mod convert_fault;
+mod lists;
 mod measuring;
 mod moving;
+mod numbers;
 mod passing;
 mod quick;
 mod reading;

@@ -1,25 +1,25 @@
 //! Measuring: the packed size of a record in the receiver's format, or the first fault.
 
 ghost use Rattle.std.specs.Prelude.{◌≡◌, false, ◌+◌, ◌*◌, ◌^◌, ◌<◌, ◌≤◌, ◌≤ℤ◌, ℕ, pos, IsTrue, []};
-ghost use Rattle.std.specs.Prelude.{◌∷◌, ◌++◌, length, IfOk, IfSome, Some, slice_get};
+ghost use Rattle.std.specs.Prelude.{◌∷◌, ◌++◌, length, IfOk, Some};
 ghost use Rattle.evp_base.specs.Numbers.{is_width};
-ghost use Rattle.evp_format.specs.Converting.{make_text};
 ghost use Rattle.evp_format.specs.declared.place.PlaceStep.{PlaceStep};
-ghost use Rattle.evp_plan.specs.declared.step.Step.{Step};
 ghost use Rattle.evp_plan.specs.declared.step.Op.{Op};
-ghost use Rattle.evp_plan.specs.Measuring.{tested, measured, measured_op, measured_part};
+ghost use Rattle.evp_plan.specs.Measuring.{measured, measured_op, measured_part};
 ghost use Rattle.evp_plan.specs.Measuring.{measured_list, measured_run, has_other_count, no_block};
 ghost use Rattle.evp_plan.specs.Measuring.{counted_block};
-ghost use Rattle.evp_plan.specs.Program.{program_of, programs, program_at};
-ghost use Rattle.evp_plan.specs.Quiet.{is_quiet, is_quiet_part};
-ghost use Rattle.evp_plan.specs.Ready.{IsTextBy, IsOriginThere};
-ghost use Rattle.evp_plan.specs.Standing.{text_by, origin_number, run_count};
-ghost use Rattle.evp_runner.specs.Outcome.{outcome, verdict, block_outcome, step_verdict, room_for};
+ghost use Rattle.evp_plan.specs.Program.{program_at};
+ghost use Rattle.evp_plan.specs.Ready.{IsOriginThere};
+ghost use Rattle.evp_plan.specs.Standing.{origin_number, run_count};
+ghost use Rattle.evp_runner.specs.Outcome.{outcome};
 ghost use Rattle.evp_runner.specs.StepIn.{image_in, inside, CanRun, CanStep, CanList, CanElements};
-ghost use Rattle.evp_runner.specs.StepIn.{CanPart, IsEarlier, IsInside, IsCountThere};
+ghost use Rattle.evp_runner.specs.StepIn.{CanPart, IsEarlier};
 
 use crate::ConvertFault;
-use crate::reading::{count_of, number_from, number_there, start_of, text_there};
+use crate::blocks::{measure_text, take_elements};
+use crate::lists::{has_other_count, is_quiet};
+use crate::numbers::test_numbers;
+use crate::reading::{number_from, number_there, start_of};
 use crate::sender::Sender;
 use evp_base::fits;
 use evp_format::{Place, PlaceStep};
@@ -33,84 +33,6 @@ pub(crate) struct Measure<'a> {
     pub(crate) sender: Sender<'a>,
     pub(crate) limit: u32,
     ghost wide: { IsTrue (is_width plan.now.pointer) },
-}
-
-// The size behind a block of k bytes, at the place one step further.
-fn take_block(
-    measure: &Measure,
-    k: usize,
-    size: usize,
-    place: &Place,
-    step: PlaceStep,
-) -> Result<usize, ConvertFault>
-    requires small { k ≤ 2 ^ 33 }
-    requires size_small { size < 2 ^ 32 }
-    requires room { length place.now < 32 }
-    ensures value { result ≡ block_outcome measure.now.limit (place.now ++ step ∷ []) k size }
-    ensures bound { IfOk result (λ n. n ≤ measure.now.limit) }
-{
-    let end = (size + 7) / 8 * 8 + k;
-    if end > measure.limit as usize {
-        return Err(ConvertFault::Large(place.with(step)));
-    }
-    Ok(end)
-}
-
-// The size behind the text whose pointer stands at s.
-fn measure_text(
-    measure: &Measure,
-    s: usize,
-    size: usize,
-    place: &Place,
-    step: PlaceStep,
-) -> Result<usize, ConvertFault>
-    requires there { IsTextBy (image_in measure.now.sender) s }
-    requires size_small { size < 2 ^ 32 }
-    requires room { length place.now < 32 }
-    ensures value { result ≡ outcome (make_text measure.now.limit (place.now ++ step ∷ [])
-        (Some (text_by (image_in measure.now.sender) s)) size) }
-    ensures bound { IfOk result (λ n. n < 2 ^ 32) }
-{
-    match text_there(&measure.sender, s) {
-        None => Ok(size),
-        Some(bytes) => take_block(measure, bytes.len() + 1, size, place, step),
-    }
-}
-
-// Whether the step's number fits, if it makes a single number.
-fn test_step(measure: &Measure, step: &Step, at: usize, place: &Place) -> Result<(), ConvertFault>
-    requires at_inside { at ≤ length measure.now.sender.bytes.now }
-    requires can { CanStep measure.now.plan.now (image_in measure.now.sender) step.now at
-        (length place.now) }
-    ensures { result ≡ step_verdict (image_in measure.now.sender) at step.now place.now }
-{
-    if let Op::Number(kind, origin) = &step.task.op {
-        let number = number_from(&measure.sender, at, origin);
-        if !fits(*kind, step.task.size, number) {
-            return Err(ConvertFault::Unfit(place.with(PlaceStep::At(step.task.field))));
-        }
-    }
-    Ok(())
-}
-
-// Whether the single numbers of the receiver's record fit, in the order of the fields.
-fn test_numbers(
-    measure: &Measure,
-    steps: &[Step],
-    at: usize,
-    place: &Place,
-) -> Result<(), ConvertFault>
-    requires at_inside { at ≤ length measure.now.sender.bytes.now }
-    requires can { (k : ℕ) (step : Step) → slice_get steps.now k ≡ Some step
-        → CanStep measure.now.plan.now (image_in measure.now.sender) step at (length place.now) }
-    ensures { result
-        ≡ verdict (tested (image_in measure.now.sender) at
-        (program_of (programs measure.now.plan.now.table) steps.now) place.now) }
-{
-    for step in steps {
-        test_step(measure, step, at, place)?;
-    }
-    Ok(())
 }
 
 // The size behind the record at `at`, made by the steps of that number: only those are looked at
@@ -211,18 +133,6 @@ fn measure_inside(
     }
 }
 
-// Whether the sender has an array of another length.
-pub(crate) fn has_other_count(measure: &Measure, at: usize, n: u128, elements: &Elements) -> bool
-    requires at_inside { at ≤ length measure.now.sender.bytes.now }
-    requires there { IsCountThere (image_in measure.now.sender) at elements.now.run }
-    ensures { result ≡ has_other_count (image_in measure.now.sender) at n elements.now.run }
-{
-    match &elements.run {
-        None => false,
-        Some(run) => count_of(&measure.sender, at, run) != n,
-    }
-}
-
 // The size behind a static array.
 #[cycle(measure)]
 fn measure_each(
@@ -301,52 +211,6 @@ fn measure_many(
             )
         }
     }
-}
-
-// The size behind the block of n elements of this size, where the limit allows it.
-pub(crate) fn take_elements(
-    measure: &Measure,
-    n: u128,
-    element_size: u32,
-    size: usize,
-) -> Option<usize>
-    requires some { 1 ≤ element_size }
-    requires size_small { size < 2 ^ 32 }
-    ensures value { result ≡ room_for measure.now.limit n element_size size }
-    ensures bound { IfSome result (λ end. end < 2 ^ 32) }
-    ensures few { IfSome result (λ _. n < 2 ^ 32) }
-{
-    if n == 0 {
-        return Some(size);
-    }
-    if n > u128::from(measure.limit) {
-        return None;
-    }
-    let end = (size + 7) / 8 * 8 + n as usize * element_size as usize;
-    if end > measure.limit as usize {
-        return None;
-    }
-    Some(end)
-}
-
-// Whether the records inside a step's field find nothing.
-fn is_quiet_inside(measure: &Measure, step: &Step) -> bool
-    requires { IsInside measure.now.plan.now step.now }
-    ensures { result ≡ is_quiet (inside measure.now.plan.now step.now) }
-{
-    match step.inner {
-        None => true,
-        Some(number) => measure.plan.tests(number as usize).is_empty(),
-    }
-}
-
-// Whether no element of a step's array can be refused or takes a block.
-pub(crate) fn is_quiet(measure: &Measure, step: &Step, part: &Part) -> bool
-    requires { IsInside measure.now.plan.now step.now }
-    ensures { result ≡ is_quiet_part step.now.task.size part.now
-        (is_quiet (inside measure.now.plan.now step.now)) }
-{
-    part.is_quiet(step.task.size, is_quiet_inside(measure, step))
 }
 
 // The size behind n elements of the sender's array; zeros take no block, and neither do elements

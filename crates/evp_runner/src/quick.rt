@@ -3,16 +3,18 @@
 
 ghost use Rattle.std.specs.Prelude.{◌≡◌, ◌<◌, ◌≤◌, ◌^◌, [], length, IfSome, Ok};
 ghost use Rattle.evp_plan.specs.Measuring.{measured};
-ghost use Rattle.evp_plan.specs.Program.{program_at};
+ghost use Rattle.evp_plan.specs.Planned.{whole_program};
+ghost use Rattle.evp_plan.specs.Quicks.{IsFit};
 ghost use Rattle.evp_plan.specs.Ready.{IsTextBy, IsOriginThere};
 ghost use Rattle.evp_runner.specs.Outcome.{outcome};
 ghost use Rattle.evp_runner.specs.Passable.{StepPasses, ListPasses, TextPasses};
 ghost use Rattle.evp_runner.specs.StepIn.{image_in, CanRun, CanStep, CanList, IsInside};
 
-use crate::measuring::{Measure, has_other_count, is_quiet, take_elements};
+use crate::blocks::take_elements;
+use crate::lists::{has_other_count, is_quiet};
+use crate::measuring::Measure;
 use crate::reading::{number_from, text_there};
-use evp_base::fits;
-use evp_plan::{Elements, Op, Origin, Step};
+use evp_plan::{Elements, Op, Origin, Quick, Step};
 
 // The size behind the text whose pointer stands at s, where the limit allows it.
 fn quick_text(measure: &Measure, s: usize, size: usize) -> Option<usize>
@@ -64,7 +66,7 @@ fn quick_many(
     take_elements(measure, wanted as u128, step.task.size, size)
 }
 
-// The size behind a field of the record at `at`.
+// The size behind a field of the record at `at` that is no single number.
 fn quick_step(measure: &Measure, step: &Step, at: usize, size: usize) -> Option<usize>
     requires at_inside { at ≤ length measure.now.sender.bytes.now }
     requires size_small { size < 2 ^ 32 }
@@ -75,41 +77,49 @@ fn quick_step(measure: &Measure, step: &Step, at: usize, size: usize) -> Option<
     ensures bound { IfSome result (λ end. end < 2 ^ 32) }
 {
     match &step.task.op {
-        Op::Number(kind, origin) => {
-            let number = number_from(&measure.sender, at, origin);
-            if fits(*kind, step.task.size, number) {
-                Some(size)
-            } else {
-                None
-            }
-        }
         Op::Text(None) => Some(size),
         Op::Text(Some(offset)) => quick_text(measure, at + *offset as usize, size),
         Op::Many(origin, elements) => quick_many(measure, step, origin, elements, at, size),
-        Op::Nest(_) | Op::Each(_, _) => None,
+        Op::Number(_, _) | Op::Nest(_) | Op::Each(_, _) => None,
     }
 }
 
-// The size behind the record at `at`, made by the steps of that number.
-pub(crate) fn quick_record(
-    measure: &Measure,
-    number: usize,
-    at: usize,
-    size: usize,
-) -> Option<usize>
-    requires known { number < length measure.now.plan.now.table }
+// The size behind a field of the record at `at`, by its quick test where it has one.
+#[inline(always)]
+fn quick_test(measure: &Measure, test: &Quick, at: usize, size: usize) -> Option<usize>
+    requires at_inside { at ≤ length measure.now.sender.bytes.now }
+    requires size_small { size < 2 ^ 32 }
+    requires can { CanStep measure.now.plan.now (image_in measure.now.sender) test.now.step at 0 }
+    requires inside { IsInside measure.now.plan.now test.now.step }
+    requires fit { IsFit test.now }
+    ensures passes { IfSome result (λ end. StepPasses measure.now.plan.now measure.now.limit
+        (image_in measure.now.sender) test.now.step at size end) }
+    ensures bound { IfSome result (λ end. end < 2 ^ 32) }
+{
+    let Some(words) = &test.words else {
+        return quick_step(measure, &test.step, at, size);
+    };
+    if words.has_there(measure.sender.bytes, at, measure.sender.order) {
+        Some(size)
+    } else {
+        None
+    }
+}
+
+// The size behind the record at `at`, made by the last list of steps.
+pub(crate) fn quick_record(measure: &Measure, at: usize, size: usize) -> Option<usize>
     requires at_inside { at ≤ length measure.now.sender.bytes.now }
     requires size_small { size < 2 ^ 32 }
     requires can { CanRun measure.now.plan.now (image_in measure.now.sender)
-        (program_at measure.now.plan.now.table number) at 0 }
+        (whole_program measure.now.plan.now) at 0 }
     ensures value { IfSome result (λ end. Ok end ≡ outcome (measured measure.now.limit
-        (image_in measure.now.sender) (program_at measure.now.plan.now.table number) [] at size)) }
+        (image_in measure.now.sender) (whole_program measure.now.plan.now) [] at size)) }
     ensures bound { IfSome result (λ end. end < 2 ^ 32) }
 {
-    let steps = measure.plan.tests(number);
+    let tests = measure.plan.quick();
     let mut size = size;
-    for step in steps {
-        let Some(end) = quick_step(measure, step, at, size) else {
+    for test in tests {
+        let Some(end) = quick_test(measure, test, at, size) else {
             return None;
         };
         size = end;

@@ -55,9 +55,7 @@ fn quick_whole(plan: &Plan, item: &Checked, limit: u32) -> Option<u32>
         sender,
         limit,
     };
-    let lists = plan.table();
-    let count = lists.len();
-    match quick_record(&measure, count - 1, 0, plan.fixed() as usize) {
+    match quick_record(&measure, 0, plan.fixed() as usize) {
         Some(size) => Some(size as u32),
         None => None,
     }

@@ -1,10 +1,9 @@
-use Rattle.std.proofs.Common.{ℕ, ◌-◌, length, ap, refl}
+use Rattle.std.proofs.Common.{◌-◌, length, refl}
 use Rattle.evp_runner.specs.StepIn.{image_in}
 use Rattle.evp_runner.proofs.Runs.{can_whole}
 use Rattle.evp_runner.proofs.running.quick_whole.Goals as goal
 
 pub quick_record-requires-clause-can : goal.quick_record-requires-clause-can
 quick_record-requires-clause-can c =
-    can_whole c.args.plan.now c.args.item.now c.requires.to (image_in c.sender_of-sender.result) (length c.table-lists.result.now - 1)
-    0 c.requires.stands c.bytes-held.ensures.kept c.sender_of-sender.ensures
-    (ap (λ (n : ℕ). n - 1) (ap length c.table-lists.ensures.value)) refl
+    can_whole c.args.plan.now c.args.item.now c.requires.to (image_in c.sender_of-sender.result) (length c.args.plan.now.table - 1)
+    0 c.requires.stands c.bytes-held.ensures.kept c.sender_of-sender.ensures refl refl

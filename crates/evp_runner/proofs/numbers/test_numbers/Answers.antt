@@ -1,5 +1,5 @@
 use Rattle.evp_runner.proofs.Measured.{at_index}
-use Rattle.evp_runner.proofs.measuring.test_numbers.Goals as goal
+use Rattle.evp_runner.proofs.numbers.test_numbers.Goals as goal
 
 pub test_step-requires-clause-can : goal.test_step-requires-clause-can
 test_step-requires-clause-can c = c.requires.can c.loop-step.step-index _

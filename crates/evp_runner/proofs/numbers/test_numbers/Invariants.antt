@@ -2,7 +2,7 @@ use Rattle.std.proofs.Common.{◌≡◌, drop}
 use Rattle.evp_plan.specs.Measuring.{tested}
 use Rattle.evp_plan.specs.Program.{program_of, programs}
 use Rattle.evp_runner.specs.StepIn.{image_in}
-use Rattle.evp_runner.proofs.measuring.test_numbers.Given as goal
+use Rattle.evp_runner.proofs.numbers.test_numbers.Given as goal
 
 abbrev pub invariant-loop-step : goal.invariant-loop-step
 invariant-loop-step l =

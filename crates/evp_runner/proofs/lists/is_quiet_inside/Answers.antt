@@ -1,5 +1,5 @@
 use Rattle.evp_runner.proofs.Quieted.{quiet_inside}
-use Rattle.evp_runner.proofs.measuring.is_quiet_inside.Goals as goal
+use Rattle.evp_runner.proofs.lists.is_quiet_inside.Goals as goal
 
 pub returns-in-Some : goal.returns-in-Some
 returns-in-Some c =

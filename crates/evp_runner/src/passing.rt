@@ -7,7 +7,8 @@ ghost use Rattle.evp_plan.specs.Planned.{IsPlanFrom, StandsFor};
 ghost use Rattle.evp_record.specs.Record.{value_of};
 ghost use Rattle.evp_runner.specs.Running.{IsSizeOf, AtSize, IsConversion, IsPassed, IsRunFault};
 
-use crate::{RunFault, measure, run_into};
+use crate::running::{measure_fully, measure_quickly};
+use crate::{RunFault, run_into};
 use evp_plan::Plan;
 use evp_record::Checked;
 use std::alloc::{AllocError, Global};
@@ -16,6 +17,7 @@ use std::borrow::CowSlice;
 /// The packed record of the receiver's format, in a buffer of its size: the conversion, packed.
 /// `Unfit` and `Large` with their place there exactly as the conversion has them, or `Memory`. The
 /// plan is one for records of this format.
+#[inline(always)]
 pub fn run(alloc: Global, plan: &Plan, item: Checked, limit: u32) -> Result<Vec<u8>, RunFault>
     requires { IsPlanFrom plan.now item.layout }
     ensures packed { IfOk result (λ bytes. (to : Layout) → StandsFor plan.now item.entry.layout to
@@ -23,7 +25,23 @@ pub fn run(alloc: Global, plan: &Plan, item: Checked, limit: u32) -> Result<Vec<
     ensures fault { IfErr result (λ fault. (to : Layout) → StandsFor plan.now item.entry.layout to
         → IsRunFault fault (convert to (value_of item.entry) limit)) }
 {
-    match measure(plan, item.copy(), limit) {
+    match measure_quickly(plan, &item, limit) {
+        Some(size) => Ok(packed(alloc, plan, item, size)?),
+        None => run_fully(alloc, plan, item, limit),
+    }
+}
+
+// The same as `run`, with the place of a fault. Apart from it, since room for a fault is made of
+// zeros first.
+#[inline(never)]
+fn run_fully(alloc: Global, plan: &Plan, item: Checked, limit: u32) -> Result<Vec<u8>, RunFault>
+    requires { IsPlanFrom plan.now item.layout }
+    ensures packed { IfOk result (λ bytes. (to : Layout) → StandsFor plan.now item.entry.layout to
+        → IsConversion item.entry to limit bytes.items) }
+    ensures fault { IfErr result (λ fault. (to : Layout) → StandsFor plan.now item.entry.layout to
+        → IsRunFault fault (convert to (value_of item.entry) limit)) }
+{
+    match measure_fully(plan, item.copy(), limit) {
         Ok(size) => Ok(packed(alloc, plan, item, size)?),
         Err(fault) => Err(RunFault::from(fault)),
     }
@@ -33,6 +51,7 @@ pub fn run(alloc: Global, plan: &Plan, item: Checked, limit: u32) -> Result<Vec<
 /// exactly where the two formats are equal, else the packed record. `Unfit`, `Large` and `Memory`
 /// as `run` has them; so `Large` also where the formats are equal and the packed record would pass
 /// the limit. The plan is one for records of this format.
+#[inline(always)]
 pub fn pass<'a>(
     alloc: Global,
     plan: &Plan,
@@ -45,7 +64,30 @@ pub fn pass<'a>(
     ensures fault { IfErr result (λ fault. (to : Layout) → StandsFor plan.now item.entry.layout to
         → IsRunFault fault (convert to (value_of item.entry) limit)) }
 {
-    match measure(plan, item.copy(), limit) {
+    match measure_quickly(plan, &item, limit) {
+        Some(size) => {
+            let bytes = item.bytes();
+            Ok(handed_on(alloc, plan, item, bytes, size)?)
+        }
+        None => pass_fully(alloc, plan, item, limit),
+    }
+}
+
+// The same as `pass`, with the place of a fault.
+#[inline(never)]
+fn pass_fully<'a>(
+    alloc: Global,
+    plan: &Plan,
+    item: Checked<'a>,
+    limit: u32,
+) -> Result<CowSlice<'a, u8>, RunFault>
+    requires { IsPlanFrom plan.now item.layout }
+    ensures passed { IfOk result (λ bytes. (to : Layout) → StandsFor plan.now item.entry.layout to
+        → IsPassed item.entry to limit bytes) }
+    ensures fault { IfErr result (λ fault. (to : Layout) → StandsFor plan.now item.entry.layout to
+        → IsRunFault fault (convert to (value_of item.entry) limit)) }
+{
+    match measure_fully(plan, item.copy(), limit) {
         Ok(size) => {
             let bytes = item.bytes();
             Ok(handed_on(alloc, plan, item, bytes, size)?)

@@ -32,11 +32,23 @@ pub fn measure(plan: &Plan, item: Checked, limit: u32) -> Result<u32, ConvertFau
         → result ≡ outcome (convert to (value_of item.entry) limit) }
     ensures size { IfOk result (λ size. IsSizeOf plan.now item.entry size) }
 {
-    let _held = item.bytes();
-    match quick_whole(plan, &item, limit) {
+    match measure_quickly(plan, &item, limit) {
         Some(size) => Ok(size),
         None => measure_fully(plan, item, limit),
     }
+}
+
+/// The packed size, where it is easily seen that nothing is refused. No room for a fault is made.
+#[inline(always)]
+pub(crate) fn measure_quickly(plan: &Plan, item: &Checked, limit: u32) -> Option<u32>
+    requires { IsPlanFrom plan.now item.now.layout }
+    ensures value { IfSome result (λ size. (to : Layout) → StandsFor plan.now item.now.layout to
+        → Ok size ≡ outcome (convert to (value_of item.now) limit)) }
+    ensures size { IfSome result (λ size. IsSizeOf plan.now item.now size) }
+{
+    let _held = item.bytes();
+    let size = quick_whole(plan, item, limit)?;
+    Some(size)
 }
 
 // The packed size, where it is easily seen that nothing is refused.
@@ -61,10 +73,10 @@ fn quick_whole(plan: &Plan, item: &Checked, limit: u32) -> Option<u32>
     }
 }
 
-// The same as `measure`, with the place of a fault. Apart from it, since room for a fault is made
-// of zeros first.
+/// The same as `measure`, with the place of a fault. Apart from it, since room for a fault is made
+/// of zeros first.
 #[inline(never)]
-fn measure_fully(plan: &Plan, item: Checked, limit: u32) -> Result<u32, ConvertFault>
+pub(crate) fn measure_fully(plan: &Plan, item: Checked, limit: u32) -> Result<u32, ConvertFault>
     requires { IsPlanFrom plan.now item.layout }
     ensures value { (to : Layout) → StandsFor plan.now item.entry.layout to
         → result ≡ outcome (convert to (value_of item.entry) limit) }

@@ -8,8 +8,8 @@ use crate::lanes::{gather_few, gather_lanes};
 use crate::mover::Mover;
 use std::simd::prelude::*;
 
-// How many blocks of sixteen bytes there are on both sides, where each of `from` begins `step` bytes
-// behind the one before.
+// How many blocks of sixteen bytes there are on both sides, where each of `from` begins `step`
+// bytes behind the one before.
 #[inline(always)]
 fn block_count(out: usize, from: usize, step: usize) -> usize
     requires { 0 < step }
@@ -35,8 +35,8 @@ fn move_block(out: &mut [u8], from: &[u8], mover: &Mover, block: usize)
     gather_lanes(out, block * 16, from, block * step, mask);
 }
 
-// Makes the elements of so many times four blocks: a loop of single ones is as slow as the processor
-// begins loops.
+// Makes the elements of so many times four blocks. A loop of single ones takes as long as the
+// processor takes to begin it again.
 #[inline(always)]
 fn move_fours(out: &mut [u8], from: &[u8], mover: &Mover, fours: usize)
     requires out { fours * 4 * 16 ≤ length out.old }

@@ -2,6 +2,7 @@
 #![tactic(auto)]
 
 mod convert_fault;
+mod filling;
 mod measuring;
 mod moving;
 mod passing;

@@ -11,3 +11,4 @@ mod QuickSizes
 mod Records
 mod Quieted
 mod Zeros
+mod Filled

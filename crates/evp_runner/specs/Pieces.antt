@@ -1,5 +1,5 @@
 -- Pieces put on the bytes of an output.
-use Rattle.std.specs.Prelude.{◌≡◌, ℕ, [], ◌∷◌, ◌++◌, List, length, Option, Some, None}
+use Rattle.std.specs.Prelude.{◌≡◌, ℕ, [], ◌∷◌, ◌++◌, List, length, replicate, Option, Some, None}
 use Rattle.evp_format.specs.Bytes.{put_at}
 use Rattle.evp_format.specs.Datum.{Datum, num, null, text, list, rec}
 use Rattle.evp_format.specs.Packing.{Pieces, put_pieces}
@@ -16,6 +16,10 @@ block_of (rec entries) = None
 pub record IsPut (pieces : Pieces) (size : ℕ) (old new : List ℕ) : Type 0 where
   pub sized : size ≡ pieces.size
   pub put : new ≡ put_pieces pieces.all old
+
+-- the pieces from any size on were put on zeros, and add no block
+abbrev pub IsFilled : (ℕ → Pieces) → List ℕ → Type 0
+IsFilled pieces new = (size : ℕ) → IsPut (pieces size) size (replicate (length new) 0) new
 
 -- bytes of which this holds stand in the place of so many from t on
 pub record IsPutOver (t : ℕ) (Holds : List ℕ → Type 0) (count : ℕ) (old new : List ℕ) : Type 0 where

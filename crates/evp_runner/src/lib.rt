@@ -3,6 +3,7 @@
 
 mod blocks;
 mod convert_fault;
+mod filling;
 mod lists;
 mod measuring;
 mod moving;

@@ -241,7 +241,7 @@ fn move_inside(
 }
 
 // How many elements are written: as many as are wanted, or those of a shorter array.
-fn moved_count(work: &Move, at: usize, n: u128, elements: &Elements) -> u128
+pub(crate) fn moved_count(work: &Move, at: usize, n: u128, elements: &Elements) -> u128
     requires at_inside { at ≤ length work.now.sender.bytes.now }
     requires there { IsCountThere (image_in work.now.sender) at elements.now.run }
     ensures { result ≡ moved_count (image_in work.now.sender) at n elements.now.run }
@@ -305,7 +305,7 @@ fn part_of(bytes: &[u8], start: usize, count: usize) -> &[u8]
 
 // The n numbers of the sender's array, where they stand side by side and the receiver's have the
 // same size.
-fn side_by_side<'a>(
+pub(crate) fn side_by_side<'a>(
     work: &Move<'a>,
     size: u32,
     elements: &Elements,

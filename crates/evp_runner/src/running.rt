@@ -13,6 +13,7 @@ ghost use Rattle.evp_runner.specs.Running.{IsSizeOf, AreConverted};
 ghost use Rattle.evp_runner.specs.StepIn.{image_in};
 
 use crate::ConvertFault;
+use crate::filling::fill_numbers;
 use crate::measuring::{Measure, measure_record};
 use crate::moving::{Move, move_record};
 use crate::quick::quick_record;
@@ -140,10 +141,13 @@ pub fn run_into(plan: &Plan, item: Checked, out: &mut [u8])
             return;
         }
     }
-    clear(out);
     let work = Move { plan, sender };
     let lists = plan.table();
     let count = lists.len();
+    if fill_numbers(&work, count - 1, out) {
+        return;
+    }
+    clear(out);
     let fixed = plan.fixed() as usize;
     let _end = move_record(&work, count - 1, 0, out, 0, fixed);
 }

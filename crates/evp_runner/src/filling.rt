@@ -1,6 +1,6 @@
 //! Records that one array of numbers fills.
 
-ghost use Rattle.std.specs.Prelude.{◌≡◌, ◌+◌, ◌*◌, ◌<◌, ◌≤◌, length, true};
+ghost use Rattle.std.specs.Prelude.{◌≡◌, ◌+◌, ◌*◌, ◌<◌, ◌≤◌, length, true, false};
 ghost use Rattle.evp_plan.specs.declared.step.Op.{Op};
 ghost use Rattle.evp_plan.specs.Moving.{moved, moved_op};
 ghost use Rattle.evp_plan.specs.Planned.{machine_in};
@@ -18,7 +18,8 @@ pub(crate) fn fill_numbers(work: &Move, number: usize, out: &mut [u8]) -> bool
     requires known { number < length work.now.plan.now.table }
     requires can { CanMove work.now.plan.now (image_in work.now.sender)
         (program_at work.now.plan.now.table number) 0 0 (length out.old) }
-    ensures { result ≡ true → IsFilled (λ size. moved (image_in work.now.sender)
+    ensures kept { result ≡ false → out.new ≡ out.old }
+    ensures filled { result ≡ true → IsFilled (λ size. moved (image_in work.now.sender)
         (machine_in work.now.plan.now) (program_at work.now.plan.now.table number) 0 0 size)
         out.new }
 {
@@ -37,7 +38,8 @@ pub(crate) fn fill_numbers(work: &Move, number: usize, out: &mut [u8]) -> bool
 fn fill_array(work: &Move, step: &Step, count: u32, elements: &Elements, out: &mut [u8]) -> bool
     requires can { CanMoveList work.now.plan.now (image_in work.now.sender) step.now elements.now 0 }
     requires room { step.now.task.offset + count * step.now.task.size ≤ length out.old }
-    ensures { result ≡ true → IsFilled (λ size. moved_op (image_in work.now.sender)
+    ensures kept { result ≡ false → out.new ≡ out.old }
+    ensures filled { result ≡ true → IsFilled (λ size. moved_op (image_in work.now.sender)
         (machine_in work.now.plan.now) step.now.task.size (Op.Each count elements.now)
         (moved (image_in work.now.sender) (machine_in work.now.plan.now)
         (inside work.now.plan.now step.now)) 0 (0 + step.now.task.offset) size) out.new }

@@ -7,8 +7,8 @@ ghost use Rattle.evp_plan.specs.Planned.{IsPlanFrom, StandsFor};
 ghost use Rattle.evp_record.specs.Record.{value_of};
 ghost use Rattle.evp_runner.specs.Running.{IsSizeOf, AtSize, IsConversion, IsPassed, IsRunFault};
 
-use crate::running::{measure_fully, measure_quickly};
-use crate::{RunFault, run_into};
+use crate::RunFault;
+use crate::running::{measure_fully, measure_quickly, run_over};
 use evp_plan::Plan;
 use evp_record::Checked;
 use std::alloc::{AllocError, Global};
@@ -126,6 +126,6 @@ fn packed(alloc: Global, plan: &Plan, item: Checked, size: u32) -> Result<Vec<u8
         IsConversion item.entry to limit bytes.items)) }
 {
     let mut bytes = vec![in alloc; 0u8; size as usize]?;
-    run_into(plan, item, &mut bytes);
+    run_over(plan, item, &mut bytes, true);
     Ok(bytes)
 }

@@ -133,6 +133,16 @@ pub fn run_into(plan: &Plan, item: Checked, out: &mut [u8])
     requires size { IsSizeOf plan.now item (length out.old) }
     ensures { AreConverted plan.now item.entry out.new }
 {
+    run_over(plan, item, out, false)
+}
+
+/// The same, where it may be known that `out` is zero.
+pub(crate) fn run_over(plan: &Plan, item: Checked, out: &mut [u8], is_zero: bool)
+    requires plan_from { IsPlanFrom plan.now item.layout }
+    requires size { IsSizeOf plan.now item (length out.old) }
+    requires zero { IsTrue is_zero → out.old ≡ replicate (length out.old) 0 }
+    ensures { AreConverted plan.now item.entry out.new }
+{
     let _held = item.bytes();
     let sender = sender_of(&item);
     if let Some(moves) = plan.whole(sender.order) {
@@ -147,13 +157,23 @@ pub fn run_into(plan: &Plan, item: Checked, out: &mut [u8])
     if fill_numbers(&work, count - 1, out) {
         return;
     }
-    clear(out);
+    clear(out, is_zero);
     let fixed = plan.fixed() as usize;
     let _end = move_record(&work, count - 1, 0, out, 0, fixed);
 }
 
+// Zeros all of it, where it isn't zero yet.
+fn clear(out: &mut [u8], is_zero: bool)
+    requires { IsTrue is_zero → out.old ≡ replicate (length out.old) 0 }
+    ensures { out.new ≡ replicate (length out.old) 0 }
+{
+    if !is_zero {
+        put_zeros(out);
+    }
+}
+
 // Zeros all of it.
-fn clear(out: &mut [u8])
+fn put_zeros(out: &mut [u8])
     ensures { out.new ≡ replicate (length out.old) 0 }
 {
     for byte in out.iter_mut() {

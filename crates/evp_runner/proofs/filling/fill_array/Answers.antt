@@ -23,8 +23,8 @@ pub side_by_side-requires-clause-there : goal.side_by_side-requires-clause-there
 side_by_side-requires-clause-there c =
     numbers_there c.args.work.now.plan.now (image_in c.args.work.now.sender) c.args.step.now c.args.elements.now 0 c.requires.can
 
-pub returns : goal.returns
-returns c = λ made.
+pub returns-clause-filled : goal.returns-clause-filled
+returns-clause-filled c = λ made.
     (let plan = c.args.work.now.plan.now in
     let image = image_in c.args.work.now.sender in
     let step = c.args.step.now in

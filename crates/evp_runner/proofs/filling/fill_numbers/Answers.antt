@@ -26,12 +26,12 @@ fill_array-requires-clause-room c =
     c.requires.can in
     array.room
 
-pub returns-in-Each : goal.returns-in-Each
-returns-in-Each c = λ made.
+pub returns-in-Each-clause-filled : goal.returns-in-Each-clause-filled
+returns-in-Each-clause-filled c = λ made.
     (let plan = c.args.work.now.plan.now in
     let steps = c.as_slice-steps.result.now in
     let found = found_steps plan c.args.number c.table.result.now c.index-table-number.result steps c.table.ensures.value c.requires.known
     c.index-table-number.is c.as_slice-steps.ensures in
     only_filled plan (image_in c.args.work.now.sender) c.args.number steps _ c.in-Each.count c.in-Each.elements c.fill_array.new.out
     c.table.ensures.ordered found (own_index steps 0 _ (omega (arith, c.if-steps-ne1.false))) c.if-steps-ne1.false c.in-Each.is
-    (c.fill_array.ensures made))
+    (c.fill_array.ensures.filled made))

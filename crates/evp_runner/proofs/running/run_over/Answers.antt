@@ -4,7 +4,7 @@ use Rattle.std.proofs.lemmas.List.{length-replicate}
 use Rattle.evp_runner.specs.StepIn.{image_in}
 use Rattle.evp_runner.proofs.Painting.{paints_all, all_reach, all_put}
 use Rattle.evp_runner.proofs.Runs.{can_move_whole, fits_whole, converted_whole}
-use Rattle.evp_runner.proofs.running.run_into.Goals as goal
+use Rattle.evp_runner.proofs.running.run_over.Goals as goal
 
 pub fill_numbers-requires-clause-can : goal.fill_numbers-requires-clause-can
 fill_numbers-requires-clause-can c =
@@ -22,7 +22,7 @@ returns-then-fill_numbers c =
     (length c.table-lists.result.now - 1) plan.fixed (length c.args.out.now) plan.fixed (replicate (length new) 0) new
     c.requires.plan_from.stands c.bytes-held.ensures.kept c.requires.size c.sender_of-sender.ensures
     (ap (λ (n : ℕ). n - 1) (ap length c.table-lists.ensures.value)) refl
-    (ap (λ (n : ℕ). replicate {A = ℕ} n 0) same) (c.fill_numbers.ensures c.if-fill_numbers.true plan.fixed)
+    (ap (λ (n : ℕ). replicate {A = ℕ} n 0) same) (c.fill_numbers.ensures.filled c.if-fill_numbers.true plan.fixed)
 
 pub move_record-end-requires-clause-can : goal.move_record-end-requires-clause-can
 move_record-end-requires-clause-can c =

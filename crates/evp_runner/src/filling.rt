@@ -8,7 +8,8 @@ ghost use Rattle.evp_plan.specs.Program.{program_at};
 ghost use Rattle.evp_runner.specs.Pieces.{IsFilled};
 ghost use Rattle.evp_runner.specs.StepIn.{image_in, inside, CanMove, CanMoveList};
 
-use crate::moving::{Move, moved_count, side_by_side};
+use crate::arrays::{moved_count, side_by_side};
+use crate::moving::Move;
 use evp_plan::{Elements, Op, Step};
 use evp_wide::reorder;
 

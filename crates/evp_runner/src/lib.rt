@@ -1,14 +1,17 @@
 //! Conversions of records by plans, from bytes to bytes.
 #![tactic(auto)]
 
+mod arrays;
 mod blocks;
 mod convert_fault;
+mod digits;
 mod filling;
 mod lists;
 mod measuring;
 mod moving;
 mod numbers;
 mod passing;
+mod pointers;
 mod quick;
 mod reading;
 mod run_fault;

@@ -7,7 +7,7 @@ use Rattle.evp_base.proofs.Numbers.{length-digits}
 use Rattle.evp_format.specs.Bytes.{put_at}
 use Rattle.evp_runner.proofs.MidPut.{mid_put}
 use Rattle.evp_runner.proofs.Residues.{digits-low}
-use Rattle.evp_runner.proofs.moving.put_digits.Goals as goal
+use Rattle.evp_runner.proofs.digits.put_digits.Goals as goal
 
 pub returns : goal.returns
 returns c =

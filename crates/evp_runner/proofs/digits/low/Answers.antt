@@ -3,7 +3,7 @@ use Rattle.std.proofs.lemmas.Int.{ints, to_z-of_z}
 use mir.Syntax.{w128}
 use mir.Val.{SFits}
 use Rattle.evp_runner.proofs.Residues.{residue-below}
-use Rattle.evp_runner.proofs.moving.low.Goals as goal
+use Rattle.evp_runner.proofs.digits.low.Goals as goal
 
 pub returns-else-number-ge0-clause-value : goal.returns-else-number-ge0-clause-value
 returns-else-number-ge0-clause-value c =

@@ -1,7 +1,7 @@
 use Rattle.std.proofs.Common.{◌*◌, refl, arith}
 use Rattle.evp_runner.specs.StepIn.{image_in}
 use Rattle.evp_runner.proofs.SideBySide.{side_there, side_is}
-use Rattle.evp_runner.proofs.moving.side_by_side.Goals as goal
+use Rattle.evp_runner.proofs.arrays.side_by_side.Goals as goal
 
 pub overflow_mul-count : goal.overflow_mul-count
 overflow_mul-count c =

@@ -1,0 +1,69 @@
+//! Bytes and digits put on the output.
+
+ghost use Rattle.std.specs.Prelude.{◌≡◌, ◌+◌, ◌*◌, ◌-◌, ◌%◌, ◌^◌, ◌<◌, ◌≤◌, ◌<ℤ◌, ◌-ℤ◌, ◌+ℤ◌};
+ghost use Rattle.std.specs.Prelude.{pos, length, IsTrue};
+ghost use Rattle.evp_base.specs.Numbers.{digits, residue, is_width};
+ghost use Rattle.evp_format.specs.Bytes.{put_at};
+
+use evp_base::{Order, put_number};
+
+/// These bytes in the place of those from t on.
+pub(crate) fn put_bytes(out: &mut [u8], t: usize, bytes: &[u8])
+    requires { t + length bytes.now ≤ length out.old }
+    ensures { out.new ≡ put_at t bytes.now out.old }
+{
+    out[t..t + bytes.len()].copy_from_slice(bytes);
+}
+
+// 2^(8 size).
+fn modulus_of(size: u32) -> u128
+    requires { IsTrue (is_width size) }
+    ensures { result ≡ 2 ^ (8 * size) }
+{
+    match size {
+        1 => 1 << 8,
+        2 => 1 << 16,
+        4 => 1 << 32,
+        _ => 1 << 64,
+    }
+}
+
+// How far the number is below -1.
+fn distance(number: i128) -> u128
+    requires { number <ℤ pos 0 }
+    ensures { pos result ≡ pos 0 -ℤ (number +ℤ pos 1) }
+{
+    (-(number + 1)) as u128
+}
+
+// n modulo that; a division only where it is needed.
+fn remainder(n: u128, modulus: u128) -> u128
+    requires { 0 < modulus }
+    ensures { result ≡ n % modulus }
+{
+    if n < modulus { n } else { n % modulus }
+}
+
+// The number modulo 2^(8 size).
+fn low(number: i128, size: u32) -> u128
+    requires { IsTrue (is_width size) }
+    ensures value { result ≡ residue number (2 ^ (8 * size)) }
+    ensures below { result < 2 ^ (8 * size) }
+{
+    let modulus = modulus_of(size);
+    if number >= 0 {
+        remainder(number as u128, modulus)
+    } else {
+        modulus - 1 - remainder(distance(number), modulus)
+    }
+}
+
+/// The digits of a number in the place of the bytes from t on.
+pub(crate) fn put_digits(out: &mut [u8], t: usize, order: Order, size: u32, number: i128)
+    requires allowed { IsTrue (is_width size) }
+    requires inside { t + size ≤ length out.old }
+    ensures { out.new ≡ put_at t (digits order size number) out.old }
+{
+    let place = &mut out[t..t + size as usize];
+    put_number(place, order, size, low(number, size) as i128);
+}

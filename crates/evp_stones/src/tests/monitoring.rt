@@ -7,11 +7,10 @@ mod meeting;
 mod report;
 
 use super::owned;
+use crate::carried::Carried;
 use crate::whole_job::whole_job;
 use crate::{Gate, OpenGate, stones};
-use evp_core::World;
 use evp_depot::{MemoryDepot, MemorySink};
-use evp_report::write_report;
 use machines::files;
 use meeting::Meeting;
 use report::expected;
@@ -111,13 +110,9 @@ fn reports<R: Threads + Wait + Sync, G: Gate + Sync>(
 // The report of the depot's job, which a world carries to its end.
 fn report_by_turns(alloc: Global, depot: &mut MemoryDepot) -> Result<Vec<u8>, Fail> {
     let job = whole_job(alloc, depot, "j.json").ok().ok_or("a job")?;
-    let mut world = World::new(alloc, &job).ok().ok_or("a world")?;
-    world.finish().ok().ok_or("memory")?;
-    let accounts = world.accounts();
+    let carried = Carried::by_turns(alloc, job, &[]).ok().ok_or("memory")?;
     let mut sink = MemorySink::new(alloc, ROOM, ROOM, Vec::new(alloc))?;
-    write_report(&job, &accounts, &mut sink)
-        .ok()
-        .ok_or("a report")?;
+    carried.write(&mut sink).ok().ok_or("a report")?;
     Ok(Vec::from_slice(alloc, sink.put())?)
 }
 

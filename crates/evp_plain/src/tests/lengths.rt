@@ -64,8 +64,8 @@ fn lists_of_every_length(rt: HostRuntime) -> Result<(), Fail> {
 // The numbers from 1 to 37, of 4 bytes each.
 fn up_to_37(alloc: Global, big: bool) -> Result<Vec<u8>, Fail> {
     let mut bytes = Vec::new(alloc);
-    for number in 1..38i128 {
-        bytes.extend_from_slice(&number_bytes(alloc, big, 4, number)?)?;
+    for number in 1..38u32 {
+        bytes.extend_from_slice(&number_bytes(alloc, big, 4, i128::from(number))?)?;
     }
     Ok(bytes)
 }

@@ -29,7 +29,7 @@ pub(crate) fn gathers_for(alloc: Global, cells: &[Cell], reach: u32) -> Result<V
         return Ok(gathers);
     }
     let last = cells.len() - 16;
-    for block in 0..cells.len() / 16 + 1 {
+    for block in 0..cells.len().div_ceil(16) {
         let to = last.min(16 * block);
         add_gathers(cells, to, reach, false, &mut gathers)?;
         add_gathers(cells, to, reach, true, &mut gathers)?;

@@ -1,12 +1,12 @@
 -- A gather paints by its cells.
 use Rattle.std.proofs.Common.{◌≡◌, ℕ, zero, suc, ◌+◌, ◌<◌, ◌≤◌, Bool, true, false, ◌&&◌, List, [], ◌∷◌, ◌++◌, length, take}
 use Rattle.std.proofs.Common.{drop, get_or, refl, sym, ap, ◌∙◌, subst, ◌⊎◌, inl, inr, arith}
-use Rattle.std.specs.Prelude.{slice_index, replicate}
+use Rattle.std.specs.Prelude.{slice_index, replicate, IfSome, Option, Some, None}
 use Rattle.std.proofs.Math.Nat.{mod-eq_of_lt}
 use Rattle.std.proofs.lemmas.Bool.Decides.{nat_tests}
 use Rattle.std.proofs.lemmas.Grind.{and_numeral}
 use Rattle.std.proofs.lemmas.Bool.{lt-ltb, le-ltb}
-use Rattle.std.proofs.lemmas.List.{get_or-drop, take_more, take_all, length-replicate}
+use Rattle.std.proofs.lemmas.List.{get_or-drop, at_drop_more, length-replicate}
 use Rattle.std.specs.Int.Bits.{bit_or, bit_and, or_zero_l, or_zero_r, and_zero_r}
 use lib.Lanes.{zip2}
 use Rattle.evp_base.proofs.Digits.{AreBytes}
@@ -16,10 +16,10 @@ use Rattle.evp_plan.specs.declared.cell.Cell.TheVariants.{Keep, Constant}
 use Rattle.evp_plan.specs.declared.gather.Gather.{Gather}
 use Rattle.evp_plan.specs.Cells.{cell_value, painted, painted_at, overlaid, picked_cell, blend_cell, blend_cells, gather_cells}
 use Rattle.evp_plan.specs.Cells.{gathers_over, lanes, written}
-use Rattle.evp_plan.specs.Cells.{IsGatherWithin}
+use Rattle.evp_plan.specs.Cells.{IsGatherWithin, gathered_at}
 use Rattle.std.specs.List.{All}
 use Rattle.evp_plan.specs.Clean.{is_clean_byte, is_clean}
-use Rattle.evp_plan.proofs.Painting.{painted_at-overlaid, length-painted_at, length-overlaid}
+use Rattle.evp_plan.proofs.Painting.{painted_at-overlaid, length-overlaid}
 
 -- ---- one byte
 
@@ -152,11 +152,6 @@ gather_is signed from at offset (suc to) places keeps constants (byte ∷ out) a
 
 -- ---- gathers one after another
 
-gathers_over-push : (gathers : List Gather) (gather : Gather) (cells : List Cell)
-    → gathers_over (gathers ++ gather ∷ []) cells ≡ overlaid gather.to (gather_cells gather) (gathers_over gathers cells)
-gathers_over-push [] gather cells = refl
-gathers_over-push (first ∷ gathers) gather cells = gathers_over-push gathers gather (overlaid first.to (gather_cells first) cells)
-
 pub length-gathers_over : (gathers : List Gather) (cells : List Cell) → length (gathers_over gathers cells) ≡ length cells
 length-gathers_over [] cells = refl
 length-gathers_over (gather ∷ gathers) cells =
@@ -170,32 +165,44 @@ length-blend_cells signed offset (place ∷ places) (keep ∷ keeps) [] long lon
 length-blend_cells signed offset (place ∷ places) (keep ∷ keeps) (constant ∷ constants) long long' =
     ap suc (length-blend_cells signed offset places keeps constants (omega (arith, long)) (omega (arith, long')))
 
--- one gather more
-pub next_gather : (from : List ℕ) (at t k : ℕ) (gathers : List Gather) (gather : Gather) (cells : List Cell) (old out out' : List ℕ)
-    → AreBytes out → k < length gathers → gather ≡ get_or gathers k gather
-    → is_clean gather.blend.mask.places gather.blend.keep gather.blend.constant ≡ true → length gather.blend.mask.places ≡ 16
-    → length gather.blend.keep ≡ 16 → length gather.blend.constant ≡ 16
-    → gather.to + 16 ≤ length cells → t + length cells ≤ length old
-    → out ≡ painted_at from at t (gathers_over (take k gathers) cells) old
+-- a gather's sixteen bytes, of its record at t
+pub one_gather : (from : List ℕ) (at t : ℕ) (gather : Gather) (out out' : List ℕ) → AreBytes out → t + gather.to + 16 ≤ length out
     → out' ≡ written (lanes gather.signed gather.blend.mask.places (drop (at + gather.at) from)) gather.blend (t + gather.to) out
-    → out' ≡ painted_at from at t (gathers_over (take (k + 1) gathers) cells) old
-next_gather from at t k gathers gather cells old out out' are below is clean long long' long'' fits room before made =
+    → out' ≡ painted_at from at (t + gather.to) (gather_cells gather) out
+one_gather from at t gather out out' are room made =
+    let blend = gather.blend in
+    made ∙ gather_is gather.signed from at gather.at (t + gather.to) blend.mask.places blend.keep blend.constant out are gather.clean
+    blend.mask.sixteen blend.keeps blend.sets room
+
+pub sixteen_cells : (gather : Gather) → length (gather_cells gather) ≡ 16
+sixteen_cells gather =
+    let blend = gather.blend in
+    length-blend_cells gather.signed gather.at blend.mask.places blend.keep blend.constant (blend.keeps ∙ sym blend.mask.sixteen)
+    (blend.sets ∙ sym blend.mask.sixteen) ∙ blend.mask.sixteen
+
+-- one gather more
+pub next_gather : (from : List ℕ) (at t k : ℕ) (gathers : List Gather) (gather : Gather) (out out' : List ℕ) → k < length gathers
+    → gather ≡ get_or gathers k gather → out' ≡ painted_at from at (t + gather.to) (gather_cells gather) out
+    → gathered_at from at t (drop (k + 1) gathers) out' ≡ gathered_at from at t (drop k gathers) out
+next_gather from at t k gathers gather out out' below is made =
+    let rest = drop (k + 1) gathers in
+    ap (gathered_at from at t rest) made
+    ∙ ap (λ (g : Gather). gathered_at from at t (g ∷ rest) out) is
+    ∙ sym (at_drop_more (λ (gs : List Gather). gathered_at from at t gs out) gathers k gather below)
+
+-- gathers one after another paint by their cells, laid over those before
+pub painted_over : (from : List ℕ) (at t n reach : ℕ) (gathers : List Gather) (cells : List Cell) (out : List ℕ)
+    → All (IsGatherWithin n reach) gathers → length cells ≡ n → t + n ≤ length out
+    → gathered_at from at t gathers (painted_at from at t cells out) ≡ painted_at from at t (gathers_over gathers cells) out
+painted_over from at t n reach [] cells out within long room = refl
+painted_over from at t n reach (gather ∷ gathers) cells out within long room =
     let upper = gather_cells gather in
-    let under = gathers_over (take k gathers) cells in
-    let under_long : length under ≡ length cells = length-gathers_over (take k gathers) cells in
-    let upper_long : length upper ≡ 16 = length-blend_cells gather.signed gather.at gather.blend.mask.places gather.blend.keep gather.blend.constant
-    (long' ∙ sym long) (long'' ∙ sym long) ∙ long in
-    let out_long : length out ≡ length old = ap length before ∙ length-painted_at from at t under old in
-    let more : take (k + 1) gathers ≡ take k gathers ++ gather ∷ [] = take_more gathers k gather below
-    ∙ ap (λ (g : Gather). take k gathers ++ g ∷ []) (sym is) in
-    made
-    ∙ gather_is gather.signed from at gather.at (t + gather.to) gather.blend.mask.places gather.blend.keep gather.blend.constant out are clean long long'
-    long'' (omega (arith, fits, room, out_long))
-    ∙ ap (λ (l : List ℕ). painted_at from at (t + gather.to) upper l) before
-    ∙ painted_at-overlaid from at t gather.to upper under old (omega (arith, fits, upper_long, under_long))
-    (omega (arith, room, under_long))
-    ∙ ap (λ (c : List Cell). painted_at from at t c old)
-    (sym (ap (λ (gs : List Gather). gathers_over gs cells) more ∙ gathers_over-push (take k gathers) gather cells))
+    let fits = within 0 gather (omega arith) in
+    let sixteen = sixteen_cells gather in
+    ap (gathered_at from at t gathers)
+    (painted_at-overlaid from at t gather.to upper cells out (omega (arith, fits.0, sixteen, long)) (omega (arith, room, long)))
+    ∙ painted_over from at t n reach gathers (overlaid gather.to upper cells) out (λ k d below. within (suc k) d (omega (arith, below)))
+    (length-overlaid gather.to upper cells ∙ long) room
 
 painted-Keep : (from : List ℕ) (at n : ℕ) (out : List ℕ) → painted from at (replicate n Keep) out ≡ out
 painted-Keep from at zero out = refl
@@ -215,23 +222,37 @@ painted-zeros from at (suc n) [] long = absurd (omega (arith, long))
 painted-zeros from at (suc n) (old ∷ out) long = ap (λ (l : List ℕ). 0 ∷ l) (painted-zeros from at n out (omega (arith, long)))
 
 -- cells as a method sees them
-pub cells_long : (cells : List Cell) (gathers : List Gather) (n : ℕ) → cells ≡ gathers_over gathers (replicate n Keep) → length cells ≡ n
-cells_long cells gathers n is = ap length is ∙ length-gathers_over gathers (replicate n Keep) ∙ length-replicate {A = Cell} n Keep
+pub cells_long : (cells : List Cell) (first second : List Gather) (n : ℕ)
+    → cells ≡ gathers_over second (gathers_over first (replicate n Keep)) → length cells ≡ n
+cells_long cells first second n is =
+    ap length is ∙ length-gathers_over second (gathers_over first (replicate n Keep)) ∙ length-gathers_over first (replicate n Keep)
+    ∙ length-replicate {A = Cell} n Keep
 
-pub all_gathers : (from : List ℕ) (at t k n : ℕ) (cells : List Cell) (gathers : List Gather) (out old : List ℕ)
-    → cells ≡ gathers_over gathers (replicate n Keep) → length gathers ≤ k
-    → out ≡ painted_at from at t (gathers_over (take k gathers) (replicate (length cells) Keep)) old → out ≡ painted_at from at t cells old
-all_gathers from at t k n cells gathers out old is past before =
-    before ∙ ap (λ (gs : List Gather). painted_at from at t (gathers_over gs (replicate (length cells) Keep)) old) (take_all k gathers past)
-    ∙ ap (λ (m : ℕ). painted_at from at t (gathers_over gathers (replicate m Keep)) old) (cells_long cells gathers n is)
-    ∙ ap (λ (c : List Cell). painted_at from at t c old) (sym is)
+-- both lists, one after the other
+pub all_gathers : (from : List ℕ) (at t n reach : ℕ) (first second : List Gather) (cells : List Cell) (old out out' : List ℕ)
+    → cells ≡ gathers_over second (gathers_over first (replicate n Keep)) → All (IsGatherWithin n reach) first
+    → All (IsGatherWithin n reach) second → t + n ≤ length old → out ≡ gathered_at from at t first old
+    → out' ≡ gathered_at from at t second out → out' ≡ painted_at from at t cells old
+all_gathers from at t n reach first second cells old out out' is within within' room made made' =
+    let keeps : List Cell = replicate n Keep in
+    let long : length keeps ≡ n = length-replicate {A = Cell} n Keep in
+    made' ∙ ap (gathered_at from at t second)
+    (made ∙ sym (ap (gathered_at from at t first) (no_gather from at t n old))
+    ∙ painted_over from at t n reach first keeps old within long room)
+    ∙ painted_over from at t n reach second (gathers_over first keeps) old within' (length-gathers_over first keeps ∙ long) room
+    ∙ sym (ap (λ (c : List Cell). painted_at from at t c old) is)
 
--- what is known of each gather
-pub one_within : (n reach : ℕ) (all gathers : List Gather) (k : ℕ) (gather : Gather) → gathers ≡ all → k < length gathers
-    → gather ≡ get_or gathers k gather → All (IsGatherWithin n reach) all
-    → IsGatherWithin n reach gather
-one_within n reach all gathers k gather same below is within =
-    let P : List Gather → Type 0 = λ gs. All (IsGatherWithin n reach) gs in
-    let here = subst P (sym same) within in
-    let Q : Gather → Type 0 = λ g. IsGatherWithin n reach g in
-    subst Q (sym is) (here k gather below)
+-- where the gathers of a list have room
+pub all_fit : (n reach at t long room : ℕ) (gathers items : List Gather) → gathers ≡ items → All (IsGatherWithin n reach) items
+    → at + reach ≤ long → t + n ≤ room
+    → All (λ (g : Gather). (at + g.at + 16 ≤ long) × (t + g.to + 16 ≤ room)) gathers
+all_fit n reach at t long room gathers items is within reaches fits = λ k d below.
+    (let P : List Gather → Type 0 = λ gs. All (IsGatherWithin n reach) gs in
+    let here = subst P (sym is) within k d below in
+    (omega (arith, here.1, reaches), omega (arith, here.0, fits)))
+
+-- a gather that stands at a place within has room
+pub within_if : (made : Option Gather) (to at n reach : ℕ) → IfSome made (λ gather. (gather.to ≡ to) × (gather.at ≡ at)) → to + 16 ≤ n
+    → at + 16 ≤ reach → IfSome made (IsGatherWithin n reach)
+within_if None to at n reach is fits reaches = is
+within_if (Some gather) to at n reach is fits reaches = (omega (arith, is.0, fits), omega (arith, is.1, reaches))

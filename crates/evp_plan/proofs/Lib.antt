@@ -17,6 +17,7 @@ pub mod NumberCells
 pub mod Painting
 pub mod Gathered
 mod OneGather
+mod Apart
 mod Plain
 pub mod Painted
 pub mod Compiled

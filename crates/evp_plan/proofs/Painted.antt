@@ -1,6 +1,6 @@
 -- Steps that make single numbers paint by their cells.
-use Rattle.std.proofs.Common.{◌≡◌, ◌≢◌, ℕ, ◌+◌, ◌-◌, ◌≤◌, IsTrue, Bool, true, false, ◌&&◌, List, [], ◌∷◌, ◌++◌, length}
-use Rattle.std.proofs.Common.{refl, sym, ap, ◌∙◌, subst, arith}
+use Rattle.std.proofs.Common.{◌≡◌, ◌≢◌, ℕ, zero, suc, ◌<◌, ◌+◌, ◌-◌, ◌≤◌, IsTrue, Bool, true, false, ◌&&◌, List, [], ◌∷◌, ◌++◌, length}
+use Rattle.std.proofs.Common.{get_or, inl, inr, refl, sym, ap, ◌∙◌, subst, arith}
 use Rattle.std.specs.List.{list_all}
 use Rattle.std.proofs.lemmas.Bool.Decides.{nat_tests}
 use Rattle.evp_base.specs.declared.kind.Kind.{Kind}
@@ -19,12 +19,13 @@ use Rattle.evp_plan.specs.declared.step.Origin.{Origin}
 use Rattle.evp_plan.specs.declared.step.Origin.TheVariants.{Standing, Stated}
 use Rattle.evp_plan.specs.declared.step.Step.{Step}
 use Rattle.evp_plan.specs.Cells.{painted_at, overlaid, origin_cells, op_cells, steps_over, end_of, source_end, reach_of, is_plain_kind}
-use Rattle.evp_plan.specs.Cells.{is_plain_op, Moving, AreMovesOver, IsMovesOf, IsWholeOf}
+use Rattle.evp_plan.specs.Cells.{is_plain_op, Moving, AreMovesOver, IsMovesOf, IsWholeOf, AreMovesOf}
+use Rattle.evp_format.proofs.Pushed.{slice_get-push}
 use Rattle.evp_plan.specs.Moving.{moved, moved_op}
 use Rattle.evp_plan.specs.Sound.{IsSoundOp, IsSound}
 use Rattle.evp_plan.proofs.Gathered.{no_gather, painted-zeros}
-use Rattle.std.proofs.lemmas.List.{length-replicate}
-use Rattle.std.specs.Prelude.{replicate, IfOk, IfSome, Result, Ok, Err, Option, Some, None}
+use Rattle.std.proofs.lemmas.List.{length-replicate, length-append}
+use Rattle.std.specs.Prelude.{slice_get, replicate, IfOk, IfSome, Result, Ok, Err, Option, Some, None}
 use Rattle.evp_plan.specs.declared.cell.Cell.TheVariants.{Keep, Constant}
 use Rattle.evp_plan.specs.Program.{Program, inner_program, program_of}
 use Rattle.evp_plan.specs.Ready.{IsOriginThere, IsOpThere, IsReady}
@@ -219,3 +220,24 @@ moves_make programs image machine steps moves at t after out is ready are room =
           (no_gather image.bytes at t (end_of steps) out),
       sym made.1,
     )
+
+pub any_or : (table : List (List Step)) (k : ℕ) (d e : List Step) → k < length table → get_or table k d ≡ get_or table k e
+any_or [] k d e below = absurd (omega arith)
+any_or (steps ∷ table) zero d e below = refl
+any_or (steps ∷ table) (suc k) d e below = any_or table k d e (omega (arith, below))
+
+-- the moves of one list of steps more
+pub moves_more : (from order : Order) (table : List (List Step)) (all made : List (Option Moving)) (next : Option Moving) (k : ℕ)
+    → AreMovesOf from order table all → length all ≡ k → IfSome next (IsMovesOf from order (get_or table k []))
+    → made ≡ all ++ next ∷ [] → AreMovesOf from order table made × (length made ≡ k + 1)
+moves_more from order table all made next k are long fits made_is = (
+  (λ j moves is.
+      elim (slice_get-push all next j (Some moves) (ap (λ (l : List (Option Moving)). slice_get l j) (sym made_is) ∙ is)) [
+        | inl old ↦ are j moves old.1
+        | inr last ↦
+            let of_steps : ℕ → Type 0 = λ n. IsMovesOf from order (get_or table n []) moves in
+            let made_last : Option Moving → Type 0 = λ o. IfSome o (IsMovesOf from order (get_or table k [])) in
+            subst of_steps (sym (last.0 ∙ long)) (subst made_last last.1 fits)
+      ]),
+  ap length made_is ∙ length-append all (next ∷ []) ∙ ap (λ n. n + 1) long,
+)

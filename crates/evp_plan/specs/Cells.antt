@@ -3,7 +3,7 @@
 use Rattle.std.specs.Prelude.{◌≡◌, ℕ, zero, suc, ◌+◌, ◌-◌, ◌≤◌, Bool, true, false, nat_lt, nat_eq}
 use Rattle.std.specs.Prelude.{if◌then◌else◌, List, [], ◌∷◌, map, max, get_or, replicate, reverse}
 use Rattle.std.specs.Prelude.{slice_get, slice_index, length, take, drop, ◌++◌, Option, Some}
-use Rattle.std.specs.List.{list_all}
+use Rattle.std.specs.List.{All, list_all}
 use Rattle.evp_base.specs.Numbers.{digits}
 use Rattle.evp_base.specs.declared.kind.Kind.{Kind}
 use Rattle.evp_base.specs.declared.kind.Kind.TheVariants.{Int, Unsigned, Char, Boolean, Enumeration}
@@ -14,6 +14,7 @@ use Rattle.evp_wide.specs.Gathered.{gathered, signs_gathered, with_constant, wit
 use Rattle.evp_wide.specs.declared.lanes.Blend.{Blend}
 use Rattle.evp_plan.specs.declared.cell.Cell.{Cell}
 use Rattle.evp_plan.specs.declared.gather.Gather.{Gather}
+use Rattle.evp_plan.specs.declared.gather.Gathers.{Gathers}
 use Rattle.evp_plan.specs.declared.step.Op.{Op}
 use Rattle.evp_plan.specs.declared.step.Op.TheVariants.{Number, Text, Nest, Each, Many}
 use Rattle.evp_plan.specs.declared.step.Origin.{Origin}
@@ -150,6 +151,24 @@ gathers_over (gather ∷ gathers) cells = gathers_over gathers
 -- inside a record of this length, from so many bytes
 abbrev pub IsGatherWithin : ℕ → ℕ → Gather → Type 0
 IsGatherWithin length reach gather = (gather.to + 16 ≤ length) × (gather.at + 16 ≤ reach)
+
+-- all are, and the first are plain
+pub record AreWithin (length reach : ℕ) (gathers : Gathers) : Type 0 where
+  pub plain : All (λ gather. gather.plain ≡ true) gathers.plain.items
+  pub first : All (IsGatherWithin length reach) gathers.plain.items
+  pub second : All (IsGatherWithin length reach) gathers.mixed.items
+
+-- the bytes, where gathers one after another made those of the record at t
+abbrev pub gathered_at : List ℕ → ℕ → ℕ → List Gather → List ℕ → List ℕ
+gathered_at from at t [] out = out
+gathered_at from at t (gather ∷ gathers) out = gathered_at from at t gathers
+    (painted_at from at (t + gather.to) (gather_cells gather) out)
+
+-- the same for n records, each gather for all of them
+abbrev pub gathered_each : List ℕ → ℕ → ℕ → ℕ → ℕ → ℕ → List Gather → List ℕ → List ℕ
+gathered_each from at stride t width n [] out = out
+gathered_each from at stride t width n (gather ∷ gathers) out = gathered_each from at stride t
+    width n gathers (painted_each from at stride (t + gather.to) width n (gather_cells gather) out)
 
 -- ---- what moves do
 

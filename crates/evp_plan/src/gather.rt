@@ -21,3 +21,10 @@ pub(crate) struct Gather {
     ghost alone: { plain ≡ true → IsPlain signed blend },
     ghost clean: { is_clean blend.mask.places blend.keep blend.constant ≡ true },
 }
+
+// Gathers of one record, each of which is run once: first those that only write what they pick.
+#[derive(Debug, Drop)]
+pub(crate) struct Gathers {
+    pub(crate) plain: Vec<Gather>,
+    pub(crate) mixed: Vec<Gather>,
+}

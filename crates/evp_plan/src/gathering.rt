@@ -1,12 +1,11 @@
 //! Which gathers make a record's bytes.
 
-ghost use Rattle.std.specs.Prelude.{◌≡◌, ◌+◌, ◌<◌, ◌≤◌, ◌^◌, true, length, IfOk, OnOk, IfSome};
-ghost use Rattle.std.specs.List.{All};
-ghost use Rattle.evp_plan.specs.Cells.{IsGatherWithin};
+ghost use Rattle.std.specs.Prelude.{◌≡◌, ◌+◌, ◌<◌, ◌≤◌, ◌^◌, ℕ, true, length, IfOk, OnOk, IfSome};
+ghost use Rattle.evp_plan.specs.Cells.{IsGatherWithin, AreWithin};
 ghost use Rattle.evp_plan.specs.Clean.{is_clean, is_clean_byte, IsPlain};
 
 use crate::Cell;
-use crate::gather::Gather;
+use crate::gather::{Gather, Gathers};
 use evp_base::Memory;
 use evp_wide::{Blend, Mask};
 use std::alloc::Global;
@@ -20,11 +19,14 @@ struct Sixteen {
 }
 
 // The gathers that make these cells, as far as gathers do: for each sixteen bytes some.
-pub(crate) fn gathers_for(alloc: Global, cells: &[Cell], reach: u32) -> Result<Vec<Gather>, Memory>
+pub(crate) fn gathers_for(alloc: Global, cells: &[Cell], reach: u32) -> Result<Gathers, Memory>
     requires { length cells.now < 2 ^ 31 }
-    ensures { IfOk result (λ gathers. All (IsGatherWithin (length cells.now) reach) gathers.items) }
+    ensures { IfOk result (λ gathers. AreWithin (length cells.now) reach gathers) }
 {
-    let mut gathers = Vec::new(alloc);
+    let mut gathers = Gathers {
+        plain: Vec::new(alloc),
+        mixed: Vec::new(alloc),
+    };
     if cells.len() < 16 || reach < 16 {
         return Ok(gathers);
     }
@@ -46,15 +48,16 @@ fn add_gathers(
     to: usize,
     reach: u32,
     signed: bool,
-    gathers: &mut Vec<Gather>,
+    gathers: &mut Gathers,
 ) -> Result<(), Memory>
     requires room { to + 16 ≤ length cells.now }
     requires few { length cells.now < 2 ^ 31 }
     requires wide { 16 ≤ reach }
-    requires within { All (IsGatherWithin (length cells.now) reach) gathers.old.items }
-    ensures { OnOk result (All (IsGatherWithin (length cells.now) reach) gathers.new.items) }
+    requires within { AreWithin (length cells.now) reach gathers.old }
+    ensures { OnOk result (AreWithin (length cells.now) reach gathers.new) }
 {
     let block = &cells[to..to + 16];
+    let whole = !signed && keeps_none(block);
     let mut begin = 0;
     for window in 0..WINDOWS {
         let first = first_picked(block, begin, signed);
@@ -63,20 +66,46 @@ fn add_gathers(
             return Ok(());
         }
         let at = first.unwrap_or(0).min(reach - 16);
-        if let Some(gather) = gather_for(block, to as u32, at, signed) {
-            gathers.push(gather)?;
-        }
+        let fresh = whole && window == 0;
+        let gather = gather_for(block, to as u32, at, signed, fresh);
+        add_gather(gather, gathers)?;
         begin = at + 16;
     }
     Ok(())
 }
 
-// The gather that makes of sixteen cells those that it can, by the window that begins there.
-fn gather_for(block: &[Cell], to: u32, at: u32, signed: bool) -> Option<Gather>
+// Adds the gather, where there is one.
+fn add_gather(gather: Option<Gather>, gathers: &mut Gathers) -> Result<(), Memory>
+    ensures { OnOk result ((length : ℕ) (reach : ℕ) → AreWithin length reach gathers.old
+        → IfSome gather (IsGatherWithin length reach) → AreWithin length reach gathers.new) }
+{
+    if let Some(gather) = gather {
+        if gather.plain {
+            gathers.plain.push(gather)?;
+        } else {
+            gathers.mixed.push(gather)?;
+        }
+    }
+    Ok(())
+}
+
+// Whether no byte stays as it stood.
+fn keeps_none(cells: &[Cell]) -> bool {
+    for cell in cells {
+        if *cell == Cell::Keep {
+            return false;
+        }
+    }
+    true
+}
+
+// The gather that makes of sixteen cells those that it can, by the window that begins there. A fresh
+// one puts zeros for the others, which gathers behind it make; else they stay as they stood.
+fn gather_for(block: &[Cell], to: u32, at: u32, signed: bool, fresh: bool) -> Option<Gather>
     requires { length block.now ≡ 16 }
     ensures { IfSome result (λ gather. (gather.to ≡ to) × (gather.at ≡ at)) }
 {
-    let sixteen = sixteen_of(block, at, signed);
+    let sixteen = sixteen_of(block, at, signed, fresh);
     let blend = blend_of(&sixteen.places, &sixteen.keep, &sixteen.constant)?;
     let plain = is_plain(signed, &blend);
     Some(Gather {
@@ -138,8 +167,8 @@ fn place_of(cell: Cell, at: u32, signed: bool) -> u8 {
     }
 }
 
-// What the cells pick, keep and set; one that does nothing of this is kept.
-fn sixteen_of(block: &[Cell], at: u32, signed: bool) -> Sixteen
+// What the cells pick, keep and set; one that does nothing of this is kept, or zero in a fresh one.
+fn sixteen_of(block: &[Cell], at: u32, signed: bool, fresh: bool) -> Sixteen
     requires { length block.now ≡ 16 }
 {
     let mut sixteen = Sixteen {
@@ -152,6 +181,7 @@ fn sixteen_of(block: &[Cell], at: u32, signed: bool) -> Sixteen
         match block[k] {
             _ if place < 16 => sixteen.places[k] = place,
             Cell::Constant(byte) if !signed => sixteen.constant[k] = byte,
+            _ if fresh => {}
             _ => sixteen.keep[k] = 0xff,
         }
     }

@@ -1,13 +1,14 @@
 //! Moves of a record's bytes, sixteen at once.
 
-ghost use Rattle.std.specs.Prelude.{◌≡◌, ◌+◌, ◌*◌, ◌≤◌, ◌<◌, ℕ, length, drop, replicate, IfOk};
-ghost use Rattle.std.specs.Prelude.{IfSome};
+ghost use Rattle.std.specs.Prelude.{◌≡◌, ◌+◌, ◌*◌, ◌≤◌, ◌<◌, ℕ, true, length, drop, replicate};
+ghost use Rattle.std.specs.Prelude.{IfOk, IfSome};
 ghost use Rattle.std.specs.List.{All};
 ghost use Rattle.evp_plan.specs.Cells.{painted_at, painted_each, AreMovesOver, IsMovesOf};
-ghost use Rattle.evp_plan.specs.Cells.{lanes, written, gather_cells, IsWholeOf, AreMovesOf};
+ghost use Rattle.evp_plan.specs.Cells.{lanes, written, gather_cells, gathered_at, gathered_each};
+ghost use Rattle.evp_plan.specs.Cells.{IsWholeOf, AreMovesOf};
 
 use crate::compiling::{MOST, are_same, end_of, filled, lay_gathers, lay_steps, reach_of};
-use crate::gather::Gather;
+use crate::gather::{Gather, Gathers};
 use crate::gathering::gathers_for;
 use crate::{Cell, Step, Steps};
 use evp_base::{Memory, Order};
@@ -27,30 +28,32 @@ pub struct Series {
 /// Moves that make the bytes of a receiver's record from those of a sender's.
 #[derive(Debug, Drop)]
 pub struct Moves {
-    gathers: Vec<Gather>,
+    gathers: Gathers,
     length: u32,
     reach: u32,
 }
 
 impl Model for Moves {
     ghost use Rattle.std.specs.Prelude.{replicate};
-    ghost use Rattle.std.specs.List.{All};
     ghost use Rattle.evp_plan.specs.declared.cell.Cell.TheVariants.{Keep};
-    ghost use Rattle.evp_plan.specs.Cells.{Moving, gathers_over, IsGatherWithin};
+    ghost use Rattle.evp_plan.specs.Cells.{Moving, gathers_over, AreWithin};
 
     ghost Value = { Moving };
 
     ghost view = { λ m. record {
-      cells = gathers_over m.gathers.items (replicate m.length Keep);
+      cells = gathers_over m.gathers.mixed.items
+          (gathers_over m.gathers.plain.items (replicate m.length Keep));
       reach = m.reach;
     } };
 
-    ghost invariant = { λ m. All (IsGatherWithin m.length m.reach) m.gathers.items };
+    ghost invariant = { λ m. AreWithin m.length m.reach m.gathers };
 }
 
-// Makes sixteen bytes of the record at t from the sender's at `at`.
+// Makes sixteen bytes of the record at t from the sender's at `at`. Whether the gather is plain may
+// be told, so that a loop over plain ones doesn't test it.
 #[inline(always)]
-fn run_gather(gather: &Gather, out: &mut [u8], t: usize, from: &[u8], at: usize)
+fn run_gather(gather: &Gather, plain: bool, out: &mut [u8], t: usize, from: &[u8], at: usize)
+    requires plain { plain ≡ true → gather.now.plain ≡ true }
     requires window { at + gather.now.at + 16 ≤ length from.now }
     requires room { t + gather.now.to + 16 ≤ length out.old }
     ensures { out.new ≡ written (lanes gather.now.signed gather.now.blend.mask.places
@@ -58,7 +61,7 @@ fn run_gather(gather: &Gather, out: &mut [u8], t: usize, from: &[u8], at: usize)
 {
     let to = t + gather.to as usize;
     let at = at + gather.at as usize;
-    if gather.plain {
+    if plain {
         evp_wide::gather(out, to, from, at, &gather.blend.mask);
         return;
     }
@@ -69,10 +72,32 @@ fn run_gather(gather: &Gather, out: &mut [u8], t: usize, from: &[u8], at: usize)
     gather_blend(out, to, from, at, &gather.blend);
 }
 
+// Runs gathers one after another.
+#[inline(always)]
+fn run_gathers(gathers: &[Gather], plain: bool, out: &mut [u8], t: usize, from: &[u8], at: usize)
+    requires plain { plain ≡ true → All (λ gather. gather.plain ≡ true) gathers.now }
+    requires within { All (λ gather. (at + gather.at + 16 ≤ length from.now)
+        × (t + gather.to + 16 ≤ length out.old)) gathers.now }
+    ensures { out.new ≡ gathered_at from.now at t gathers.now out.old }
+{
+    for gather in gathers {
+        run_gather(gather, plain, out, t, from, at);
+    }
+}
+
 // Makes sixteen bytes of n records of `out`, each from one of the sender's records. It has a gather
 // of its own, which no write to `out` asks it to read again.
 #[inline(always)]
-fn run_gather_each(gather: Gather, out: &mut [u8], to: Series, from: &[u8], at: Series, n: usize)
+fn run_gather_each(
+    gather: Gather,
+    plain: bool,
+    out: &mut [u8],
+    to: Series,
+    from: &[u8],
+    at: Series,
+    n: usize,
+)
+    requires plain { plain ≡ true → gather.plain ≡ true }
     requires window { (k : ℕ) → k < n
         → at.first + k * at.apart + gather.at + 16 ≤ length from.now }
     requires room { (k : ℕ) → k < n
@@ -83,11 +108,36 @@ fn run_gather_each(gather: Gather, out: &mut [u8], to: Series, from: &[u8], at: 
     for k in 0..n {
         run_gather(
             &gather,
+            plain,
             out,
             to.first + k * to.apart,
             from,
             at.first + k * at.apart,
         );
+    }
+}
+
+// Runs gathers one after another, each for all of the records.
+#[inline(always)]
+fn run_gathers_each(
+    gathers: &[Gather],
+    plain: bool,
+    out: &mut [u8],
+    to: Series,
+    from: &[u8],
+    at: Series,
+    n: usize,
+)
+    requires plain { plain ≡ true → All (λ gather. gather.plain ≡ true) gathers.now }
+    requires window { All (λ gather. (k : ℕ) → k < n
+        → at.first + k * at.apart + gather.at + 16 ≤ length from.now) gathers.now }
+    requires room { All (λ gather. (k : ℕ) → k < n
+        → to.first + k * to.apart + gather.to + 16 ≤ length out.old) gathers.now }
+    ensures { out.new ≡ gathered_each from.now at.first at.apart to.first to.apart n gathers.now
+        out.old }
+{
+    for gather in gathers {
+        run_gather_each(*gather, plain, out, to, from, at, n);
     }
 }
 
@@ -107,9 +157,8 @@ impl Moves {
         ensures made { out.new ≡ painted_at from.now at t self.now.cells out.old }
         ensures bytes { All (λ byte. byte < 256) from.now }
     {
-        for gather in self.gathers.iter() {
-            run_gather(gather, out, t, from, at);
-        }
+        run_gathers(self.gathers.plain.as_slice(), true, out, t, from, at);
+        run_gathers(self.gathers.mixed.as_slice(), false, out, t, from, at);
     }
 
     /// Makes the bytes of n records of `out`, each from one of the sender's records. Takes no memory.
@@ -121,8 +170,10 @@ impl Moves {
         ensures { out.new ≡ painted_each from.now at.first at.apart to.first to.apart n
             self.now.cells out.old }
     {
-        if self.gathers.len() == 1 {
-            run_gather_each(self.gathers[0], out, to, from, at, n);
+        // where one record doesn't reach into the next, their order doesn't matter
+        if to.apart >= self.length as usize {
+            run_gathers_each(self.gathers.plain.as_slice(), true, out, to, from, at, n);
+            run_gathers_each(self.gathers.mixed.as_slice(), false, out, to, from, at, n);
             return;
         }
         for k in 0..n {
@@ -154,7 +205,10 @@ fn moves_over(
     }
     let gathers = gathers_for(alloc, cells.as_slice(), reach as u32)?;
     let mut made = filled(alloc, Cell::Keep, count as usize)?;
-    if !lay_gathers(alloc, gathers.as_slice(), made.as_mut_slice())? {
+    if !lay_gathers(alloc, gathers.plain.as_slice(), made.as_mut_slice())? {
+        return Ok(None);
+    }
+    if !lay_gathers(alloc, gathers.mixed.as_slice(), made.as_mut_slice())? {
         return Ok(None);
     }
     if !are_same(made.as_slice(), cells.as_slice()) {

@@ -4,5 +4,5 @@ use Rattle.evp_plan.proofs.Gathered.{cells_long}
 use Rattle.evp_plan.proofs.moves.Moves.length.Goals as goal
 
 pub returns : goal.returns
-returns c = sym (cells_long c.args.self.now.cells c.self.inside.gathers.items c.self.inside.length
+returns c = sym (cells_long c.args.self.now.cells c.self.inside.gathers.plain.items c.self.inside.gathers.mixed.items c.self.inside.length
     (sym (ap (λ (m : Moving). m.cells) c.self.view_is)))

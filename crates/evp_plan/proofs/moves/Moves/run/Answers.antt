@@ -1,64 +1,46 @@
-use Rattle.std.proofs.Common.{◌∙◌, length, sym, ap, arith, List}
-use Rattle.std.specs.Prelude.{replicate}
-use Rattle.std.proofs.lemmas.List.{length-replicate}
-use Rattle.evp_plan.specs.declared.cell.Cell.{Cell}
+use Rattle.std.proofs.Common.{List, length, sym, ap, ◌∙◌, arith}
 use Rattle.evp_format.proofs.Descriptions.{bytes_are}
-use Rattle.evp_plan.specs.declared.cell.Cell.TheVariants.{Keep}
+use Rattle.evp_plan.specs.Cells.{Moving, gathered_at}
 use Rattle.evp_plan.specs.declared.gather.Gather.{Gather}
-use Rattle.evp_plan.specs.Cells.{gathers_over, Moving}
-use Rattle.evp_plan.proofs.Gathered.{next_gather, no_gather, cells_long, all_gathers, one_within}
+use Rattle.evp_plan.proofs.Gathered.{all_gathers, all_fit, cells_long}
 use Rattle.evp_plan.proofs.moves.Moves.run.Goals as goal
 
-pub loop-gather-init : goal.loop-gather-init
-loop-gather-init c = (
-  sym (no_gather c.args.from.now c.args.at c.args.t (length c.args.self.now.cells) c.args.out.now),
-  λ k. omega (arith, c.type_inv.out k),
-)
-
-pub run_gather-requires-clause-window : goal.run_gather-requires-clause-window
-run_gather-requires-clause-window c =
-    let within = one_within c.self.inside.length c.self.inside.reach c.self.inside.gathers.items c.deref-gather-items.result.now
-    c.loop-gather.gather-index c.gather-item.result c.deref-gather-items.ensures.value
-    c.loop-gather-test.true c.gather-item.is c.self.invariant in
+pub run_gathers-requires-clause-within : goal.run_gathers-requires-clause-within
+run_gathers-requires-clause-within c =
+    let m = c.self.inside in
+    let long = cells_long c.args.self.now.cells m.gathers.plain.items m.gathers.mixed.items m.length
+    (sym (ap (λ (m : Moving). m.cells) c.self.view_is)) in
     let reach = ap (λ (m : Moving). m.reach) c.self.view_is in
-    let fits = c.requires.reach in
-    omega (arith, within.1, reach, fits)
-
-pub run_gather-requires-clause-room : goal.run_gather-requires-clause-room
-run_gather-requires-clause-room c =
-    let within = one_within c.self.inside.length c.self.inside.reach c.self.inside.gathers.items c.deref-gather-items.result.now
-    c.loop-gather.gather-index c.gather-item.result c.deref-gather-items.ensures.value
-    c.loop-gather-test.true c.gather-item.is c.self.invariant in
-    let long = cells_long c.args.self.now.cells c.self.inside.gathers.items c.self.inside.length
-    (sym (ap (λ (m : Moving). m.cells) c.self.view_is)) in
+    let reaches = c.requires.reach in
     let fits = c.requires.room in
-    let same = c.loop-gather.auto.out in
-    omega (arith, within.0, long, fits, same)
+    all_fit m.length m.reach c.args.at c.args.t (length c.args.from.now) (length c.args.out.now) c.as_slice.result.now m.gathers.plain.items
+    c.as_slice.ensures.value c.self.invariant.first (omega (arith, reach, reaches)) (omega (arith, long, fits))
 
-pub loop-gather-preserved : goal.loop-gather-preserved
-loop-gather-preserved c =
-    let g = c.gather-item.result in
-    let within = one_within c.self.inside.length c.self.inside.reach c.self.inside.gathers.items c.deref-gather-items.result.now
-    c.loop-gather.gather-index g c.deref-gather-items.ensures.value
-    c.loop-gather-test.true c.gather-item.is c.self.invariant in
-    let long = cells_long c.args.self.now.cells c.self.inside.gathers.items c.self.inside.length
+pub run_gathers-requires-2-clause-within : goal.run_gathers-requires-2-clause-within
+run_gathers-requires-2-clause-within c =
+    let m = c.self.inside in
+    let long = cells_long c.args.self.now.cells m.gathers.plain.items m.gathers.mixed.items m.length
     (sym (ap (λ (m : Moving). m.cells) c.self.view_is)) in
-    let whole = length-replicate {A = Cell} (length c.args.self.now.cells) Keep in
-    let fits = c.requires.room in (
-      next_gather c.args.from.now c.args.at c.args.t c.loop-gather.gather-index c.deref-gather-items.result.now g
-          (replicate (length c.args.self.now.cells) Keep) c.args.out.now c.loop-gather.out c.run_gather.new.out
-          (bytes_are c.loop-gather.out c.loop-gather.invariant.1) c.loop-gather-test.true c.gather-item.is g.clean g.blend.mask.sixteen
-          g.blend.keeps g.blend.sets (omega (arith, within.0, long, whole)) (omega (arith, whole, fits))
-          c.loop-gather.invariant.0 c.run_gather.ensures,
-      λ k. omega (arith, c.type_inv.out k),
-    )
+    let reach = ap (λ (m : Moving). m.reach) c.self.view_is in
+    let reaches = c.requires.reach in
+    let fits = c.requires.room in
+    let same = c.run_gathers.auto.out in
+    all_fit m.length m.reach c.args.at c.args.t (length c.args.from.now) (length c.run_gathers.new.out) c.as_slice-2.result.now
+    m.gathers.mixed.items c.as_slice-2.ensures.value c.self.invariant.second (omega (arith, reach, reaches))
+    (omega (arith, long, fits, same))
 
 pub returns-clause-made : goal.returns-clause-made
 returns-clause-made c =
-    all_gathers c.args.from.now c.args.at c.args.t c.loop-gather.gather-index c.self.inside.length c.args.self.now.cells
-    c.deref-gather-items.result.now c.loop-gather.out c.args.out.now
-    (sym (ap (λ (m : Moving). m.cells) c.self.view_is) ∙ ap (λ (gs : List Gather). gathers_over gs (replicate c.self.inside.length Keep))
-    (sym c.deref-gather-items.ensures.value)) c.loop-gather-test.false c.loop-gather.invariant.0
+    let m = c.self.inside in
+    let from = c.args.from.now in
+    let is = sym (ap (λ (m : Moving). m.cells) c.self.view_is) in
+    let long = cells_long c.args.self.now.cells m.gathers.plain.items m.gathers.mixed.items m.length is in
+    let fits = c.requires.room in
+    all_gathers from c.args.at c.args.t m.length m.reach m.gathers.plain.items m.gathers.mixed.items c.args.self.now.cells
+    c.args.out.now c.run_gathers.new.out c.run_gathers-2.new.out is c.self.invariant.first c.self.invariant.second
+    (omega (arith, long, fits)) (c.run_gathers.ensures ∙ ap (λ (gs : List Gather). gathered_at from c.args.at c.args.t gs c.args.out.now)
+    c.as_slice.ensures.value) (c.run_gathers-2.ensures
+    ∙ ap (λ (gs : List Gather). gathered_at from c.args.at c.args.t gs c.run_gathers.new.out) c.as_slice-2.ensures.value)
 
 pub returns-clause-bytes : goal.returns-clause-bytes
 returns-clause-bytes c = bytes_are c.args.from.now (λ k. omega (arith, c.type_inv.from k))

@@ -1,8 +1,9 @@
-use Rattle.std.proofs.Common.{◌≡◌, ◌∙◌, ◌+◌, length, ap, sym, refl, arith}
+use Rattle.std.proofs.Common.{ℕ, ◌+◌, List, ◌∙◌, length, ap, sym, arith}
+use Rattle.evp_plan.proofs.Apart.{all_each, all_room}
 use Rattle.evp_plan.proofs.Each.{each_left, none_yet, one_more, no_more}
-use Rattle.evp_plan.specs.Cells.{Moving}
-use Rattle.evp_plan.proofs.Gathered.{cells_long, one_within}
-use Rattle.evp_plan.proofs.OneGather.{only_gather}
+use Rattle.evp_plan.proofs.Gathered.{cells_long}
+use Rattle.evp_plan.specs.Cells.{Moving, gathered_each}
+use Rattle.evp_plan.specs.declared.gather.Gather.{Gather}
 use Rattle.evp_plan.proofs.moves.Moves.run_each.Goals as goal
 
 pub loop-k-init : goal.loop-k-init
@@ -25,27 +26,37 @@ returns c =
     c.loop-k.out c.loop-k-test.false)
     ∙ c.loop-k.invariant
 
-pub run_gather_each-requires-clause-room : goal.run_gather_each-requires-clause-room
-run_gather_each-requires-clause-room c = λ k below.
-    (let gathers = c.self.inside.gathers in
-    let one : length gathers.items ≡ 1 = omega (arith, c.if-len-eq1.true, c.len.ensures, gathers.ok.0) in
-    let within = one_within c.self.inside.length c.self.inside.reach gathers.items gathers.items 0 c.index.result.now refl
-    (omega (arith, one)) c.index.ensures c.self.invariant in
-    let long = cells_long c.args.self.now.cells gathers.items c.self.inside.length (sym (ap (λ (m : Moving). m.cells) c.self.view_is)) in
-    omega (arith, within.0, long, c.requires.room k below))
-
-pub returns-then-len-eq1 : goal.returns-then-len-eq1
-returns-then-len-eq1 c =
-    let at = c.args.at in
+pub run_gathers_each-requires-clause-room : goal.run_gathers_each-requires-clause-room
+run_gathers_each-requires-clause-room c =
+    let m = c.self.inside in
     let to = c.args.to in
-    let gathers = c.self.inside.gathers in
-    let gather = c.index.result.now in
+    let long = cells_long c.args.self.now.cells m.gathers.plain.items m.gathers.mixed.items m.length
+    (sym (ap (λ (m : Moving). m.cells) c.self.view_is)) in
+    all_room c.args.n m.length m.reach to.first to.apart (length c.args.out.now) c.as_slice.result.now m.gathers.plain.items
+    c.as_slice.ensures.value c.self.invariant.first (λ k below. let room = c.requires.room k below in omega (arith, long, room))
+
+pub run_gathers_each-requires-then-to-self-clause-room : goal.run_gathers_each-requires-then-to-self-clause-room
+run_gathers_each-requires-then-to-self-clause-room c =
+    let m = c.self.inside in
+    let to = c.args.to in
+    let long = cells_long c.args.self.now.cells m.gathers.plain.items m.gathers.mixed.items m.length
+    (sym (ap (λ (m : Moving). m.cells) c.self.view_is)) in
+    let same = c.run_gathers_each.auto.out in
+    all_room c.args.n m.length m.reach to.first to.apart (length c.run_gathers_each.new.out) c.as_slice-then-to-self.result.now
+    m.gathers.mixed.items c.as_slice-then-to-self.ensures.value c.self.invariant.second (λ k below. let room = c.requires.room k below in omega (arith, long, room, same))
+
+pub returns-then-to-self : goal.returns-then-to-self
+returns-then-to-self c =
+    let m = c.self.inside in
+    let to = c.args.to in
+    let at = c.args.at in
     let is = sym (ap (λ (m : Moving). m.cells) c.self.view_is) in
-    let one : length gathers.items ≡ 1 = omega (arith, c.if-len-eq1.true, c.len.ensures, gathers.ok.0) in
-    let within = one_within c.self.inside.length c.self.inside.reach gathers.items gathers.items 0 gather refl (omega (arith, one))
-    c.index.ensures c.self.invariant in
-    let long = cells_long c.args.self.now.cells gathers.items c.self.inside.length is in
-    c.run_gather_each.ensures
-    ∙ only_gather c.args.from.now at.first at.apart to.first to.apart c.args.n c.self.inside.length gathers.items gather
-    c.args.self.now.cells c.args.out.now one c.index.ensures is within.0
-    (λ k below. let room = c.requires.room k below in omega (arith, long, room))
+    let long = cells_long c.args.self.now.cells m.gathers.plain.items m.gathers.mixed.items m.length is in
+    let apart = c.if-to-self.true in
+    let after = λ (gs : List Gather) (out : List ℕ). gathered_each c.args.from.now at.first at.apart to.first to.apart c.args.n gs out in
+    all_each c.args.from.now at.first at.apart to.first to.apart c.args.n m.length m.reach m.gathers.plain.items m.gathers.mixed.items
+    c.args.self.now.cells c.args.out.now c.run_gathers_each.new.out c.run_gathers_each-then-to-self.new.out is c.self.invariant.first
+    c.self.invariant.second (omega (arith, apart)) (λ k below. let room = c.requires.room k below in omega (arith, long, room))
+    (c.run_gathers_each.ensures ∙ ap (λ (gs : List Gather). after gs c.args.out.now) c.as_slice.ensures.value)
+    (c.run_gathers_each-then-to-self.ensures
+    ∙ ap (λ (gs : List Gather). after gs c.run_gathers_each.new.out) c.as_slice-then-to-self.ensures.value)

@@ -1,6 +1,6 @@
 //! Moves of a record's bytes, sixteen at once.
 
-ghost use Rattle.std.specs.Prelude.{◌≡◌, ◌+◌, ◌*◌, ◌≤◌, ◌<◌, ℕ, true, length, drop, replicate};
+ghost use Rattle.std.specs.Prelude.{◌≡◌, ◌+◌, ◌*◌, ◌^◌, ◌≤◌, ◌<◌, ℕ, true, length, drop, replicate};
 ghost use Rattle.std.specs.Prelude.{IfOk, IfSome};
 ghost use Rattle.std.specs.List.{All};
 ghost use Rattle.evp_plan.specs.Cells.{painted_at, painted_each, AreMovesOver, IsMovesOf};
@@ -85,6 +85,64 @@ fn run_gathers(gathers: &[Gather], plain: bool, out: &mut [u8], t: usize, from: 
     }
 }
 
+// Makes sixteen bytes of record k of `out`, from that of the sender's.
+#[inline(always)]
+fn run_record(
+    gather: &Gather,
+    plain: bool,
+    out: &mut [u8],
+    to: Series,
+    from: &[u8],
+    at: Series,
+    k: usize,
+)
+    requires plain { plain ≡ true → gather.now.plain ≡ true }
+    requires window { at.first + k * at.apart + gather.now.at + 16 ≤ length from.now }
+    requires room { to.first + k * to.apart + gather.now.to + 16 ≤ length out.old }
+    requires bytes { All (λ byte. byte < 256) out.old }
+    ensures made { out.new ≡ painted_at from.now (at.first + k * at.apart)
+        (to.first + k * to.apart + gather.now.to) (gather_cells gather.now) out.old }
+    ensures bytes { All (λ byte. byte < 256) out.new }
+{
+    run_gather(
+        gather,
+        plain,
+        out,
+        to.first + k * to.apart,
+        from,
+        at.first + k * at.apart,
+    );
+}
+
+// Makes sixteen bytes of each of so many times four records: four to a turn, so that the loop itself
+// takes little.
+#[inline(always)]
+fn run_fours(
+    gather: &Gather,
+    plain: bool,
+    out: &mut [u8],
+    to: Series,
+    from: &[u8],
+    at: Series,
+    fours: usize,
+)
+    requires plain { plain ≡ true → gather.now.plain ≡ true }
+    requires window { (k : ℕ) → k < fours * 4
+        → at.first + k * at.apart + gather.now.at + 16 ≤ length from.now }
+    requires room { (k : ℕ) → k < fours * 4
+        → to.first + k * to.apart + gather.now.to + 16 ≤ length out.old }
+    requires few { fours * 4 < 2 ^ 64 }
+    ensures { out.new ≡ painted_each from.now at.first at.apart (to.first + gather.now.to)
+        to.apart (fours * 4) (gather_cells gather.now) out.old }
+{
+    for four in 0..fours {
+        run_record(gather, plain, out, to, from, at, four * 4);
+        run_record(gather, plain, out, to, from, at, four * 4 + 1);
+        run_record(gather, plain, out, to, from, at, four * 4 + 2);
+        run_record(gather, plain, out, to, from, at, four * 4 + 3);
+    }
+}
+
 // Makes sixteen bytes of n records of `out`, each from one of the sender's records. It has a gather
 // of its own, which no write to `out` asks it to read again.
 #[inline(always)]
@@ -102,18 +160,13 @@ fn run_gather_each(
         → at.first + k * at.apart + gather.at + 16 ≤ length from.now }
     requires room { (k : ℕ) → k < n
         → to.first + k * to.apart + gather.to + 16 ≤ length out.old }
-    ensures { out.new ≡ painted_each from.now at.first at.apart (to.first + gather.to) to.apart n
-        (gather_cells gather) out.old }
+    ensures { out.new ≡ painted_each from.now at.first at.apart (to.first + gather.to) to.apart
+        n (gather_cells gather) out.old }
 {
-    for k in 0..n {
-        run_gather(
-            &gather,
-            plain,
-            out,
-            to.first + k * to.apart,
-            from,
-            at.first + k * at.apart,
-        );
+    let fours = n / 4;
+    run_fours(&gather, plain, out, to, from, at, fours);
+    for k in fours * 4..n {
+        run_record(&gather, plain, out, to, from, at, k);
     }
 }
 

@@ -6,5 +6,5 @@ use Rattle.evp_plan.proofs.moves.run_gather_each.Given as goal
 abbrev pub invariant-loop-k : goal.invariant-loop-k
 invariant-loop-k l =
     (each_left l.from l.at.first l.at.apart (l.to.first + l.gather.to) l.to.apart l.n (gather_cells l.gather) l.k l.out
-    ≡ painted_each l.from l.at.first l.at.apart (l.to.first + l.gather.to) l.to.apart l.n (gather_cells l.gather) l.initial.out)
+    ≡ painted_each l.from l.at.first l.at.apart (l.to.first + l.gather.to) l.to.apart l.n (gather_cells l.gather) l.fn.out)
     × ((k : ℕ) → get_or l.out k 0 < 256)

@@ -20,6 +20,7 @@ mod OneGather
 mod Apart
 mod Plain
 pub mod Painted
+mod WordLists
 pub mod Compiled
 mod QuietExamples
 pub mod QuietLists

@@ -1,9 +1,9 @@
 //! Which words of a sender's numbers fit, and the quick tests of steps.
 
-ghost use Rattle.std.specs.Prelude.{◌≡◌, ◌≤◌, ◌-◌, ◌-ℤ◌, ◌*◌, ◌^◌, pos, IsTrue, IfOk, IfSome};
+ghost use Rattle.std.specs.Prelude.{◌≡◌, ◌≤◌, ◌-◌, ◌-ℤ◌, ◌*◌, ◌^◌, ◌++◌, [], pos, IsTrue, IfOk, IfSome};
 ghost use Rattle.std.specs.List.{All};
 ghost use Rattle.evp_base.specs.Numbers.{is_width, is_size_of, least, greatest};
-ghost use Rattle.evp_plan.specs.Quicks.{steps_in, IsFit};
+ghost use Rattle.evp_plan.specs.Quicks.{steps_in, with_words, words_in, IsFit};
 ghost use Rattle.evp_plan.specs.Words.{AreWordsOf, AreWordsFor};
 
 use crate::quiet::is_size_of;
@@ -110,4 +110,29 @@ pub(crate) fn all_quick(alloc: Global, steps: &[Step]) -> Result<Vec<Quick>, Mem
         tests.push(quick_of(step))?;
     }
     Ok(tests)
+}
+
+// Those words too, where they have so many bytes.
+fn push_words(words: &mut Vec<Words>, size: u32, test: &Quick) -> Result<(), Memory>
+    ensures { IfOk result (λ _. words.new.items
+        ≡ words.old.items ++ with_words size test.now.words []) }
+{
+    let Some(entry) = test.words else {
+        return Ok(());
+    };
+    if entry.size == size {
+        words.push(entry)?;
+    }
+    Ok(())
+}
+
+// The words of these that have so many bytes.
+pub(crate) fn words_in(alloc: Global, size: u32, tests: &[Quick]) -> Result<Vec<Words>, Memory>
+    ensures { IfOk result (λ words. words.items ≡ words_in size tests.now) }
+{
+    let mut words = Vec::new(alloc);
+    for test in tests {
+        push_words(&mut words, size, test)?;
+    }
+    Ok(words)
 }

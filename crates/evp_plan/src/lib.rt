@@ -13,6 +13,7 @@ mod matching;
 mod moves;
 mod plan;
 mod quick;
+mod quick_tests;
 mod quiet;
 mod step;
 mod table;
@@ -25,6 +26,7 @@ pub use cell::Cell;
 pub use moves::{Moves, Series};
 pub use plan::Plan;
 pub use quick::Quick;
+pub use quick_tests::QuickTests;
 pub use step::{Elements, Op, Origin, Part, Run, Source, Step, Steps, Task};
 pub use words::Words;
 

@@ -1,13 +1,12 @@
 //! Plans.
 
 ghost use Rattle.std.specs.Prelude.{◌≡◌, ◌<◌, ◌≤◌, [], length, get_or, IfSome};
-ghost use Rattle.std.specs.List.{All};
 ghost use Rattle.evp_plan.specs.Cells.{IsMovesOf, AreMovesOf, IsWholeOf};
 ghost use Rattle.evp_plan.specs.Program.{IsOrdered, programs, last_steps};
 ghost use Rattle.evp_plan.specs.Quiet.{tests_of, tests_in};
-ghost use Rattle.evp_plan.specs.Quicks.{steps_in, IsFit};
+ghost use Rattle.evp_plan.specs.Quicks.{steps_in};
 
-use crate::{Moves, Quick, Step, Steps};
+use crate::{Moves, QuickTests, Step, Steps};
 use evp_base::Order;
 use evp_format::Format;
 use std::marker::Model;
@@ -29,17 +28,16 @@ pub struct Plan {
     // For each list of steps those that can refuse something or take a block.
     tests: Vec<Steps>,
     // Those of the last list, with quick tests.
-    quick: Vec<Quick>,
+    quick: QuickTests,
 }
 
 impl Model for Plan {
     ghost use Rattle.std.specs.Prelude.{◌≡◌, ◌≤◌, length, IfSome};
-    ghost use Rattle.std.specs.List.{All};
     ghost use Rattle.evp_plan.specs.Planned.{Planned};
     ghost use Rattle.evp_plan.specs.Program.{IsOrdered, last_steps};
     ghost use Rattle.evp_plan.specs.Cells.{AreMovesOf, IsWholeOf};
     ghost use Rattle.evp_plan.specs.Quiet.{tests_in};
-    ghost use Rattle.evp_plan.specs.Quicks.{steps_in, IsFit};
+    ghost use Rattle.evp_plan.specs.Quicks.{steps_in};
 
     ghost Value = { Planned };
 
@@ -55,8 +53,7 @@ impl Model for Plan {
         × (AreMovesOf p.sender p.order p.table.items p.moves.items
         × (IfSome p.whole (IsWholeOf p.sender p.order (last_steps p.table.items))
         × ((p.tests.items ≡ tests_in p.table.items)
-        × ((steps_in p.quick.items ≡ last_steps p.tests.items)
-        × All IsFit p.quick.items))))) };
+        × (steps_in p.quick ≡ last_steps p.tests.items))))) };
 }
 
 impl Plan {
@@ -71,15 +68,14 @@ impl Plan {
         moves: Vec<Option<Moves>>,
         whole: Option<Moves>,
         tests: Vec<Steps>,
-        quick: Vec<Quick>,
+        quick: QuickTests,
     ) -> Self
         requires ordered { IsOrdered table.items }
         requires some { 1 ≤ length table.items }
         requires made { AreMovesOf sender to.now.order table.items moves.items }
         requires all { IfSome whole (IsWholeOf sender to.now.order (last_steps table.items)) }
         requires tests { tests.items ≡ tests_in table.items }
-        requires quick { steps_in quick.items ≡ last_steps tests.items }
-        requires fit { All IsFit quick.items }
+        requires quick { steps_in quick ≡ last_steps tests.items }
         ensures { result ≡ planned_of to.now table.items alike }
     {
         Plan {
@@ -139,14 +135,13 @@ impl Plan {
 
     /// The steps of the last list that can refuse something or take a block, in their order, with
     /// quick tests.
-    pub fn quick(&self) -> &[Quick]
+    pub fn quick(&self) -> &QuickTests
         ensures tests { steps_in result.now ≡ tests_of (programs self.now.table)
             (last_steps self.now.table) }
-        ensures fit { All IsFit result.now }
         ensures ordered { IsOrdered self.now.table }
         ensures some { 1 ≤ length self.now.table }
     {
-        self.quick.as_slice()
+        &self.quick
     }
 
     /// Whether the two formats are equal.

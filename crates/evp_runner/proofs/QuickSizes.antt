@@ -1,8 +1,13 @@
 -- What refuses nothing: texts, counted arrays, steps, and lists of them.
 use Rattle.std.proofs.Common.{◌≡◌, ℕ, zero, suc, ◌+◌, ◌-◌, ◌<◌, ◌≤◌, pos, Bool, true, false, not, List, [], ◌∷◌, ◌++◌, length, drop}
 use Rattle.std.proofs.Common.{get_or, Option, Some, None, Ok, refl, sym, ap, ◌∙◌, subst, arith}
+use Rattle.std.specs.List.{All}
 use Rattle.std.specs.Prelude.{IfSome, slice_get}
+use Rattle.std.specs.Bool.{◌==◌}
 use Rattle.std.proofs.lemmas.Bool.{le-ltb}
+use Rattle.std.proofs.lemmas.Bool.Decides.{nat_tests}
+use Rattle.std.proofs.lemmas.List.{length-map}
+use Rattle.std.proofs.lemmas.List.Sums.{AllPass-from_list_all}
 use Rattle.evp_base.specs.Numbers.{magnitude}
 use Rattle.evp_base.proofs.Digits.{AreBytes}
 use Rattle.evp_format.specs.Bytes.{bytes_at, next_block}
@@ -21,9 +26,9 @@ use Rattle.evp_plan.specs.declared.words.Words.{Words}
 use Rattle.evp_plan.specs.Among.{is_among}
 use Rattle.evp_plan.specs.Measuring.{op_fits, sized, tested, measured, measured_op, measured_run}
 use Rattle.evp_plan.specs.Measuring.{has_other_count}
-use Rattle.evp_plan.specs.Planned.{Planned}
+use Rattle.evp_plan.specs.Planned.{Planned, measured_whole}
 use Rattle.evp_plan.specs.Program.{programs, program_of, program_at, last_steps, IsOrdered}
-use Rattle.evp_plan.specs.Quicks.{steps_in}
+use Rattle.evp_plan.specs.Quicks.{steps_in, has_words, have_words, IsFit, IsInside, IsThere}
 use Rattle.evp_plan.specs.Quiet.{is_quiet, is_quiet_part, tests_of}
 use Rattle.evp_plan.specs.Ready.{IsReady}
 use Rattle.evp_plan.specs.Standing.{ended, text_by, origin_number}
@@ -33,7 +38,7 @@ use Rattle.evp_runner.specs.Outcome.{outcome, verdict, step_verdict, sized_nothi
 use Rattle.evp_runner.specs.Passable.{TextPasses, ListPasses, StepPasses}
 use Rattle.evp_runner.specs.StepIn.{inside, CanRun, CanStep, CanList}
 use Rattle.evp_runner.proofs.Measured.{outcome_ok, many_by, elements_taken, rest_made, tested_next, tested_end, made_next, made_end}
-use Rattle.evp_runner.proofs.Quieted.{Tested, tested_list, tests_made, quiet_list}
+use Rattle.evp_runner.proofs.Quieted.{Tested, tested_list, tests_made, tests_can, quiet_list}
 
 -- ---- texts
 
@@ -89,13 +94,26 @@ words_pass plan limit image step at size found words is known can are among =
           (λ place' s later. measured limit image (inside plan step) place' s later) place at size fit;
     }
 
+-- one that has words, and whose word is one of them
+pub some_pass : (plan : Planned) (limit : ℕ) (image : Image) (step : Step) (at size : ℕ) (found : Option Words) → has_words found ≡ true
+    → IfSome found (AreWordsFor step.task.size step.task.op) → IfSome found (IsThere at image.order image.bytes)
+    → CanStep plan image step at 0 → AreBytes image.bytes → StepPasses plan limit image step at size size
+some_pass plan limit image step at size None some fit there can are = cc
+some_pass plan limit image step at size (Some words) some fit there can are =
+    words_pass plan limit image step at size (Some words) words refl fit can are there
+
 -- its word stands inside the bytes
-pub words_there : (plan : Planned) (image : Image) (step : Step) (at : ℕ) (found : Option Words) (words : Words) → found ≡ Some words
+words_there : (plan : Planned) (image : Image) (step : Step) (at : ℕ) (found : Option Words) (words : Words) → found ≡ Some words
     → IfSome found (AreWordsFor step.task.size step.task.op) → CanStep plan image step at 0
     → at + words.offset + words.size ≤ length image.bytes
 words_there plan image step at found words is known can =
     let For : Option Words → Type 0 = λ o. IfSome o (AreWordsFor step.task.size step.task.op) in
     words_inside image at step.task.size step.task.op words (λ s. IsReady image (inside plan step) s) (subst For is known) can.ready
+
+some_there : (plan : Planned) (image : Image) (step : Step) (at : ℕ) (found : Option Words)
+    → IfSome found (AreWordsFor step.task.size step.task.op) → CanStep plan image step at 0 → IfSome found (IsInside at image.bytes)
+some_there plan image step at None fit can = tt
+some_there plan image step at (Some words) fit can = words_there plan image step at (Some words) words refl fit can
 
 pub text_passes : (plan : Planned) (limit : ℕ) (image : Image) (step : Step) (at offset size end : ℕ) → step.task.op ≡ Text (Some offset)
     → TextPasses limit image (at + offset) size end → StepPasses plan limit image step at size end
@@ -183,3 +201,63 @@ passes_all plan limit image steps at n start k size past list can are so_far =
     let fine = tested_end image at (programs plan.table) steps k [] whole past so_far.tests in
     made_end plan limit image [] at steps k size (rest_made plan limit image [] at steps start) past so_far.sizes
     ∙ sym (ap outcome (tests_made plan limit image [] at n 0 steps start list can are (sym fine)))
+
+-- ---- quick tests
+
+-- the words of all of them stand inside the bytes
+pub all_inside : (plan : Planned) (image : Image) (tests : List Quick) (at : ℕ) → Tested plan (length plan.table - 1) (steps_in tests)
+    → All IsFit tests → CanRun plan image (program_at plan.table (length plan.table - 1)) at 0
+    → All (λ (test : Quick). IfSome test.words (IsInside at image.bytes)) tests
+all_inside plan image tests at list fit can = λ k d below.
+    let test = get_or tests k d in
+    some_there plan image test.step at test.words (fit k d below)
+    (tests_can plan image (length plan.table - 1) (steps_in tests) at 0 list can k test.step (step_found tests k d below))
+
+-- steps that leave the size as it is
+none_grows : (plan : Planned) (limit : ℕ) (image : Image) (tests : List Quick) (at size : ℕ)
+    → ((k : ℕ) (d : Quick) → k < length tests → StepPasses plan limit image (get_or tests k d).step at size size)
+    → (k : ℕ) → k ≤ length tests → PassesSoFar plan limit image (steps_in tests) at size k size
+none_grows plan limit image tests at size each zero below = record { tests = refl; sizes = refl }
+none_grows plan limit image [] at size each (suc k) below = absurd (omega (arith, below))
+none_grows plan limit image (first ∷ tests) at size each (suc k) below =
+    let all = first ∷ tests in
+    let step = (get_or all k first).step in
+    let long = length-map all (λ (t : Quick). t.step) in
+    let inside : k < length all = omega (arith, below) in
+    let P : ℕ → Type 0 = λ n. PassesSoFar plan limit image (steps_in all) at size n size in
+    let next : k + 1 ≡ suc k = omega arith in
+    subst P next
+    (passes_next plan limit image (steps_in all) at size k size size step (step_at all k first step inside) (omega (arith, long, below))
+    (each k first inside) (none_grows plan limit image all at size each k (omega (arith, below))))
+
+-- numbers whose words all stand there
+pub numbers_pass : (plan : Planned) (limit : ℕ) (image : Image) (tests : List Quick) (at size : ℕ)
+    → Tested plan (length plan.table - 1) (steps_in tests) → All IsFit tests → have_words tests ≡ true
+    → All (λ (test : Quick). IfSome test.words (IsThere at image.order image.bytes)) tests
+    → CanRun plan image (program_at plan.table (length plan.table - 1)) at 0 → AreBytes image.bytes
+    → Ok size ≡ outcome (measured limit image (program_at plan.table (length plan.table - 1)) [] at size)
+numbers_pass plan limit image tests at size list fit numbers there can are =
+    let n = length plan.table - 1 in
+    let long = length-map tests (λ (t : Quick). t.step) in
+    let some = AllPass-from_list_all (λ (test : Quick). has_words test.words) tests numbers in
+    passes_all plan limit image (steps_in tests) at n size (length tests) size (omega (arith, long)) list can are
+    (none_grows plan limit image tests at size
+    (λ k d below.
+    let test = get_or tests k d in
+    some_pass plan limit image test.step at size test.words (some k d below) (fit k d below) (there k d below)
+    (tests_can plan image n (steps_in tests) at 0 list can k test.step (step_found tests k d below)) are)
+    (length tests) (omega arith))
+
+pub none_left : (n : ℕ) → true ≡ (n == 0) → n ≡ 0
+none_left n is = grind (arith, nat_tests, is)
+
+-- a plan that has no tests finds the size of the fixed part
+pub nothing_tested : (plan : Planned) (limit : ℕ) (image : Image) (tests : List Quick)
+    → Tested plan (length plan.table - 1) (steps_in tests) → length tests ≡ 0
+    → CanRun plan image (program_at plan.table (length plan.table - 1)) 0 0 → AreBytes image.bytes → plan.fixed ≤ limit
+    → Ok plan.fixed ≡ outcome (measured_whole plan image limit)
+nothing_tested plan limit image tests list none can are within =
+    let long = length-map tests (λ (t : Quick). t.step) in
+    rw (le-ltb limit plan.fixed within)
+    (passes_all plan limit image (steps_in tests) 0 (length plan.table - 1) plan.fixed 0 plan.fixed (omega (arith, long, none)) list can are
+    (record { tests = refl; sizes = refl }))

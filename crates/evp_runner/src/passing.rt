@@ -98,6 +98,7 @@ fn pass_fully<'a>(
 
 // The record's own bytes, lent, where the formats are equal, else its packed conversion of this
 // size.
+#[inline(always)]
 fn handed_on<'a>(
     alloc: Global,
     plan: &Plan,
@@ -119,6 +120,7 @@ fn handed_on<'a>(
 }
 
 // The packed conversion, of this size.
+#[inline(never)]
 fn packed(alloc: Global, plan: &Plan, item: Checked, size: u32) -> Result<Vec<u8>, AllocError>
     requires plan_from { IsPlanFrom plan.now item.layout }
     requires size { IsSizeOf plan.now item size }

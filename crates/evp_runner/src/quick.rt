@@ -4,7 +4,7 @@
 ghost use Rattle.std.specs.Prelude.{◌≡◌, ◌<◌, ◌≤◌, ◌^◌, [], length, IfSome, Ok};
 ghost use Rattle.evp_plan.specs.Measuring.{measured};
 ghost use Rattle.evp_plan.specs.Planned.{whole_program};
-ghost use Rattle.evp_plan.specs.Quicks.{IsFit};
+ghost use Rattle.evp_plan.specs.Quicks.{IsFit, IsThere};
 ghost use Rattle.evp_plan.specs.Ready.{IsTextBy, IsOriginThere};
 ghost use Rattle.evp_runner.specs.Outcome.{outcome};
 ghost use Rattle.evp_runner.specs.Passable.{StepPasses, ListPasses, TextPasses};
@@ -84,7 +84,7 @@ fn quick_step(measure: &Measure, step: &Step, at: usize, size: usize) -> Option<
     }
 }
 
-// The size behind a field of the record at `at`, by its quick test where it has one.
+// The size behind a field of the record at `at`, where the words of its quick test stand there.
 #[inline(always)]
 fn quick_test(measure: &Measure, test: &Quick, at: usize, size: usize) -> Option<usize>
     requires at_inside { at ≤ length measure.now.sender.bytes.now }
@@ -92,18 +92,16 @@ fn quick_test(measure: &Measure, test: &Quick, at: usize, size: usize) -> Option
     requires can { CanStep measure.now.plan.now (image_in measure.now.sender) test.now.step at 0 }
     requires inside { IsInside measure.now.plan.now test.now.step }
     requires fit { IsFit test.now }
+    requires there { IfSome test.now.words (IsThere at measure.now.sender.order
+        measure.now.sender.bytes.now) }
     ensures passes { IfSome result (λ end. StepPasses measure.now.plan.now measure.now.limit
         (image_in measure.now.sender) test.now.step at size end) }
     ensures bound { IfSome result (λ end. end < 2 ^ 32) }
 {
-    let Some(words) = &test.words else {
+    let Some(_words) = &test.words else {
         return quick_step(measure, &test.step, at, size);
     };
-    if words.has_there(measure.sender.bytes, at, measure.sender.order) {
-        Some(size)
-    } else {
-        None
-    }
+    Some(size)
 }
 
 // The size behind the record at `at`, made by the last list of steps.
@@ -117,8 +115,15 @@ pub(crate) fn quick_record(measure: &Measure, at: usize, size: usize) -> Option<
     ensures bound { IfSome result (λ end. end < 2 ^ 32) }
 {
     let tests = measure.plan.quick();
+    let list = tests.as_slice();
+    if !tests.all_there(measure.sender.bytes, at, measure.sender.order) {
+        return None;
+    }
+    if tests.are_numbers() {
+        return Some(size);
+    }
     let mut size = size;
-    for test in tests {
+    for test in list {
         let Some(end) = quick_test(measure, test, at, size) else {
             return None;
         };

@@ -52,7 +52,9 @@ pub(crate) fn measure_quickly(plan: &Plan, item: &Checked, limit: u32) -> Option
     Some(size)
 }
 
-// The packed size, where it is easily seen that nothing is refused.
+// The packed size, where it is easily seen that nothing is refused: without a call where the plan
+// can refuse nothing.
+#[inline(always)]
 fn quick_whole(plan: &Plan, item: &Checked, limit: u32) -> Option<u32>
     requires { IsPlanFrom plan.now item.now.layout }
     ensures { IfSome result (λ size. Ok size
@@ -61,6 +63,24 @@ fn quick_whole(plan: &Plan, item: &Checked, limit: u32) -> Option<u32>
     if plan.fixed() > limit {
         return None;
     }
+    let tests = plan.quick();
+    let list = tests.as_slice();
+    if list.is_empty() {
+        let bytes = item.bytes();
+        are_bytes(bytes);
+        return Some(plan.fixed());
+    }
+    tested_whole(plan, item, limit)
+}
+
+// The packed size, where the tests of the plan easily show that nothing is refused.
+#[inline(never)]
+fn tested_whole(plan: &Plan, item: &Checked, limit: u32) -> Option<u32>
+    requires plan_from { IsPlanFrom plan.now item.now.layout }
+    requires within { plan.now.fixed ≤ limit }
+    ensures { IfSome result (λ size. Ok size
+        ≡ outcome (measured_whole plan.now (image_of item.now.layout item.now.bytes) limit)) }
+{
     let _held = item.bytes();
     let sender = sender_of(item);
     let measure = Measure {
@@ -128,6 +148,7 @@ fn sender_of<'a>(item: &Checked<'a>) -> Sender<'a>
 
 /// Writes the packed record of the receiver's format over all of `out`, whatever stood there: the
 /// conversion, packed. `measure` answered the length of `out` for some limit. Takes no memory.
+#[inline(always)]
 pub fn run_into(plan: &Plan, item: Checked, out: &mut [u8])
     requires plan_from { IsPlanFrom plan.now item.layout }
     requires size { IsSizeOf plan.now item (length out.old) }
@@ -137,6 +158,7 @@ pub fn run_into(plan: &Plan, item: Checked, out: &mut [u8])
 }
 
 /// The same, where it may be known that `out` is zero.
+#[inline(always)]
 pub(crate) fn run_over(plan: &Plan, item: Checked, out: &mut [u8], is_zero: bool)
     requires plan_from { IsPlanFrom plan.now item.layout }
     requires size { IsSizeOf plan.now item (length out.old) }
@@ -151,6 +173,19 @@ pub(crate) fn run_over(plan: &Plan, item: Checked, out: &mut [u8], is_zero: bool
             return;
         }
     }
+    run_steps(plan, item, out, is_zero)
+}
+
+// The same by the steps. Apart from it, so that the moves are all that its callers hold.
+#[inline(never)]
+fn run_steps(plan: &Plan, item: Checked, out: &mut [u8], is_zero: bool)
+    requires plan_from { IsPlanFrom plan.now item.layout }
+    requires size { IsSizeOf plan.now item (length out.old) }
+    requires zero { IsTrue is_zero → out.old ≡ replicate (length out.old) 0 }
+    ensures { AreConverted plan.now item.entry out.new }
+{
+    let _held = item.bytes();
+    let sender = sender_of(&item);
     let work = Move { plan, sender };
     let lists = plan.table();
     let count = lists.len();

@@ -7,4 +7,4 @@ use Rattle.evp_runner.proofs.quick.quick_record.Given as goal
 abbrev pub invariant-loop-test : goal.invariant-loop-test
 invariant-loop-test l =
     (l.size < 2 ^ 32)
-    × PassesSoFar l.measure.plan.now l.measure.limit (image_in l.measure.sender) (steps_in l.tests) l.at l.initial.size l.test-index l.size
+    × PassesSoFar l.measure.plan.now l.measure.limit (image_in l.measure.sender) (steps_in l.list) l.at l.initial.size l.test-index l.size

@@ -98,19 +98,31 @@ pub struct Method<'a> {
 impl<'a> Method<'a> {
     /// The converted bytes, in `out` or in a buffer of their own, or lent. None where the record
     /// doesn't fit.
+    #[inline(always)]
     #[tactic(auto, using(crate::proofs::Plans::plan_from))]
-    pub fn convert<'b>(&self, item: Checked<'b>, out: &'b mut [u8]) -> Option<CowSlice<'b, u8>>
+    pub fn convert<'b>(
+        &self,
+        way: Way,
+        item: Checked<'b>,
+        out: &'b mut [u8],
+    ) -> Option<CowSlice<'b, u8>>
         requires plan { StandsFor self.now.plan.now self.now.from.now self.now.to.now }
         requires of { item.layout ≡ self.now.from.now }
     {
-        self.converted(item, out)
+        self.converted(way, item, out)
     }
 
     // The same, where the plan is one for the record.
-    fn converted<'b>(&self, item: Checked<'b>, out: &'b mut [u8]) -> Option<CowSlice<'b, u8>>
+    #[inline(always)]
+    fn converted<'b>(
+        &self,
+        way: Way,
+        item: Checked<'b>,
+        out: &'b mut [u8],
+    ) -> Option<CowSlice<'b, u8>>
         requires { IsPlanFrom self.now.plan.now item.layout }
     {
-        match self.way {
+        match way {
             Way::Into => {
                 let size = measure(self.plan, item.copy(), LIMIT).ok()?;
                 let out = out.get_mut(..size as usize)?;
@@ -135,7 +147,7 @@ impl<'a> Method<'a> {
             Err(SlowFault::Memory) => return Err(AllocError),
             Err(_) => return Ok(false),
         };
-        match self.convert(item, out) {
+        match self.convert(self.way, item, out) {
             None => Ok(false),
             Some(bytes) => Ok(are_same(bytes.as_slice(), &plain)),
         }

@@ -1,6 +1,9 @@
 //! What is timed of a pair of formats.
 
-use crate::conversion::{Method, legal};
+ghost use Rattle.evp_plan.specs.Planned.{StandsFor};
+ghost use Rattle.evp_speed.specs.Pairs.{AreOf};
+
+use crate::conversion::{Method, Way, legal};
 use crate::workload::Workload;
 use evp_record::Checked;
 use std::alloc::{AllocError, Global};
@@ -28,14 +31,13 @@ impl<'a> Workload for Ready<'a> {
         self.items.len()
     }
 
+    // Each way has a loop of its own, so that no record asks for it.
     fn pass(&self, out: &mut [u8]) -> u64 {
-        let mut bytes = 0u64;
-        for item in &self.items {
-            if let Some(made) = self.method.convert(item.copy(), out) {
-                bytes = bytes.wrapping_add(made.as_slice().len() as u64);
-            }
+        match self.method.way {
+            Way::Into => self.pass_by(Way::Into, out),
+            Way::Own => self.pass_by(Way::Own, out),
+            Way::Lent => self.pass_by(Way::Lent, out),
         }
-        bytes
     }
 
     fn compared(&self, alloc: Global, out: &mut [u8]) -> Result<String, AllocError> {
@@ -46,6 +48,24 @@ impl<'a> Workload for Ready<'a> {
             }
         }
         told(alloc, agreeing, self.items.len(), self.pass(out))
+    }
+}
+
+impl<'a> Ready<'a> {
+    // Converts each record, and answers how many bytes come of it.
+    #[inline(always)]
+    fn pass_by(&self, way: Way, out: &mut [u8]) -> u64
+        requires of { AreOf self.now.method.from.now self.now.items.items }
+        requires plan { StandsFor self.now.method.plan.now self.now.method.from.now
+            self.now.method.to.now }
+    {
+        let mut bytes = 0u64;
+        for item in &self.items {
+            if let Some(made) = self.method.convert(way, item.copy(), out) {
+                bytes = bytes.wrapping_add(made.as_slice().len() as u64);
+            }
+        }
+        bytes
     }
 }
 
@@ -70,16 +90,13 @@ impl<'a> Workload for Whole<'a> {
         self.records.len()
     }
 
+    // Each way has a loop of its own, so that no record asks for it.
     fn pass(&self, out: &mut [u8]) -> u64 {
-        let mut bytes = 0u64;
-        for record in self.records {
-            if let Some(item) = legal(self.method.from, record) {
-                if let Some(made) = self.method.convert(item, out) {
-                    bytes = bytes.wrapping_add(made.as_slice().len() as u64);
-                }
-            }
+        match self.method.way {
+            Way::Into => self.pass_by(Way::Into, out),
+            Way::Own => self.pass_by(Way::Own, out),
+            Way::Lent => self.pass_by(Way::Lent, out),
         }
-        bytes
     }
 
     fn compared(&self, alloc: Global, out: &mut [u8]) -> Result<String, AllocError> {
@@ -92,6 +109,25 @@ impl<'a> Workload for Whole<'a> {
             }
         }
         told(alloc, agreeing, self.records.len(), self.pass(out))
+    }
+}
+
+impl<'a> Whole<'a> {
+    // Checks and converts each record, and answers how many bytes come of it.
+    #[inline(always)]
+    fn pass_by(&self, way: Way, out: &mut [u8]) -> u64
+        requires { StandsFor self.now.method.plan.now self.now.method.from.now
+            self.now.method.to.now }
+    {
+        let mut bytes = 0u64;
+        for record in self.records {
+            if let Some(item) = legal(self.method.from, record) {
+                if let Some(made) = self.method.convert(way, item, out) {
+                    bytes = bytes.wrapping_add(made.as_slice().len() as u64);
+                }
+            }
+        }
+        bytes
     }
 }
 

@@ -2,6 +2,7 @@
 use Rattle.std.proofs.Common.{◌≡◌, ℕ, ◌+◌, ◌*◌, ◌≤◌, List, ◌++◌, length, get_or, Some, refl, sym, ap, ◌∙◌, subst, arith}
 use Rattle.std.specs.Prelude.{slice_get, replicate}
 use Rattle.std.proofs.lemmas.List.{length-replicate, append-nil, drop_all}
+use Rattle.evp_base.specs.declared.kind.Kind.{Kind}
 use Rattle.evp_format.specs.Bytes.{put_at}
 use Rattle.evp_format.specs.Packing.{Pieces}
 use Rattle.evp_format.specs.Viewing.{Image}
@@ -14,12 +15,11 @@ use Rattle.evp_plan.specs.Planned.{Planned, machine_in}
 use Rattle.evp_plan.specs.Program.{program_at, IsOrdered}
 use Rattle.evp_plan.specs.Ready.{IsOpThere, IsReady}
 use Rattle.evp_plan.specs.Sound.{IsSoundOp, IsSound}
-use Rattle.evp_wide.specs.Elements.{AreReordered}
-use Rattle.evp_runner.specs.Pieces.{IsPut, IsPutOver, IsFilled}
+use Rattle.evp_runner.specs.Pieces.{IsPut, IsFilled}
 use Rattle.evp_runner.specs.StepIn.{inside, AreSideBySide, CanMove, CanMoveList}
 use Rattle.evp_runner.proofs.Moved.{list_moved, step_moved, rest_moved, step_next, moving_end, steps_end, record_moved}
 use Rattle.evp_runner.proofs.Moved.{can_move_each}
-use Rattle.evp_runner.proofs.SideBySide.{side_long, numbers_moved}
+use Rattle.evp_runner.proofs.SideBySide.{numbers_of, numbers_long, numbers_moved}
 
 put_whole : (t : ℕ) (new old : List ℕ) → t ≡ 0 → length new ≡ length old → put_at t new old ≡ new
 put_whole t new old begins long =
@@ -27,25 +27,23 @@ put_whole t new old begins long =
     ∙ ap (λ (l : List ℕ). new ++ l) (drop_all (0 + length new) old (omega (arith, long))) ∙ append-nil new
 
 -- the array of a step
-pub array_filled : (plan : Planned) (image : Image) (step : Step) (elements : Elements) (count n : ℕ) (bytes new : List ℕ)
-    → n ≡ moved_count image 0 count elements.run → step.task.offset ≡ 0 → n * step.task.size ≡ length new
-    → AreSideBySide image 0 n step.task.size elements bytes → AreReordered plan.order image.order step.task.size bytes new
+pub array_filled : (plan : Planned) (image : Image) (step : Step) (elements : Elements) (count n width : ℕ) (from : Kind)
+    (bytes zeros new : List ℕ) → n ≡ moved_count image 0 count elements.run → step.task.offset ≡ 0 → n * step.task.size ≡ length zeros
+    → AreSideBySide image 0 n elements from width bytes → new ≡ put_at 0 (numbers_of plan image step from width bytes) zeros
     → IsFilled (λ size. moved_op image (machine_in plan) step.task.size (Each count elements)
     (λ s t later. moved image (machine_in plan) (inside plan step) s t later) 0 (0 + step.task.offset) size) new
-array_filled plan image step elements count n bytes new n_is begins whole s are = λ size.
+array_filled plan image step elements count n width from bytes old new n_is begins whole s put = λ size.
     (let zeros : List ℕ = replicate (length new) 0 in
     let base = 0 + step.task.offset in
-    let long = length-replicate {A = ℕ} (length new) 0 in
-    let put : IsPutOver base (AreReordered plan.order image.order step.task.size bytes) (length bytes) zeros new =
-    record {
-      bytes = new;
-      holds = are;
-      long = sym whole ∙ sym (side_long image 0 n step.task.size elements bytes s);
-      put = sym (put_whole base new zeros (omega (arith, begins)) (sym long));
-    } in
+    let made = numbers_of plan image step from width bytes in
+    let long = numbers_long plan image step elements 0 n width from bytes s in
+    let all : new ≡ made = put ∙ put_whole 0 made old refl (long ∙ whole) in
+    let zeros_long = length-replicate {A = ℕ} (length new) 0 in
+    let new_long = ap length all in
+    let here : new ≡ put_at base made zeros = all ∙ sym (put_whole base made zeros (omega (arith, begins)) (sym new_long ∙ sym zeros_long)) in
     let Put : ℕ → Type 0 = λ m. IsPut (list_moved plan image step elements 0 base m size) size zeros new in
     subst Put n_is
-    (numbers_moved plan image step elements 0 base n size bytes zeros new s (omega (arith, begins, whole, long)) put))
+    (numbers_moved plan image step elements 0 base n size width from bytes zeros new s (omega (arith, begins, long, new_long, zeros_long)) here))
 
 -- the record of one step
 record_filled : (plan : Planned) (image : Image) (number : ℕ) (steps : List Step) (step : Step) (new : List ℕ) → IsOrdered plan.table

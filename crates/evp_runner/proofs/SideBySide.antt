@@ -1,11 +1,9 @@
 -- Numbers that stand side by side, put at once.
-use Rattle.std.proofs.Common.{◌≡◌, ◌≢◌, ℕ, zero, suc, ◌+◌, ◌*◌, ◌/◌, ◌%◌, ◌<◌, ◌≤◌, IsTrue, false, List, [], ◌∷◌, ◌++◌, length, take, drop, Option}
+use Rattle.std.proofs.Common.{◌≡◌, ◌≢◌, ℕ, zero, suc, ◌+◌, ◌*◌, ◌/◌, ◌<◌, ◌≤◌, IsTrue, List, [], ◌∷◌, ◌++◌, length, take, drop, Option}
 use Rattle.std.proofs.Common.{Some, None, refl, sym, ap, ◌∙◌, subst, arith}
-use denote.Enum.Bare.{sameb}
-use Rattle.evp_base.specs.contracts.kind.Kind.{the_type}
 use Rattle.std.specs.List.{flat_map}
 use Rattle.std.specs.Prelude.{⊤}
-use Rattle.std.proofs.Math.Nat.{mul-div_cancel, mul-mod_left}
+use Rattle.std.proofs.Math.Nat.{mul-div_cancel}
 use Rattle.std.proofs.Math.Seq.{take-append_seam, drop-append-add}
 use Rattle.std.proofs.lemmas.Bool.Decides.{nat_tests}
 use Rattle.std.proofs.lemmas.List.{length-drop, length-take, length-append, drop-drop, drop-take, take-take, take-append-drop, append_assoc, append-nil}
@@ -24,10 +22,11 @@ use Rattle.evp_plan.specs.declared.step.Step.{Step}
 use Rattle.evp_plan.specs.Moving.{moved, moved_part, moved_elements, source_place}
 use Rattle.evp_plan.specs.Planned.{Planned, machine_in}
 use Rattle.evp_plan.specs.Ready.{IsRunThere, AreElementsThere, IsReady}
+use Rattle.evp_plan.specs.Sound.{IsSoundPart, IsSound}
 use Rattle.evp_plan.specs.Standing.{run_count, run_start}
-use Rattle.evp_wide.specs.Elements.{AreReordered}
+use Rattle.evp_wide.specs.Elements.{rewritten}
 use Rattle.evp_wide.specs.Groups.{groups, elements}
-use Rattle.evp_runner.specs.Pieces.{IsPut, IsPutOver}
+use Rattle.evp_runner.specs.Pieces.{IsPut}
 use Rattle.evp_runner.specs.StepIn.{inside, AreFew, AreSideBySide, AreNumbersThere, CanMoveList}
 use Rattle.evp_runner.proofs.Moved.{list_moved}
 
@@ -79,74 +78,76 @@ groups_take size (suc count) bytes =
     ∙ ap (λ (l : List ℕ). take size bytes ∷ groups size count l) (drop-take size (count * size) bytes)
     ∙ ap (λ (l : List (List ℕ)). take size bytes ∷ l) (groups_take size count (drop size bytes))
 
-length-groups : (f : List ℕ → List ℕ) (size count : ℕ) (bytes : List ℕ) → ((e : List ℕ) → length (f e) ≡ size)
-    → length (flat_map f (groups size count bytes)) ≡ count * size
-length-groups f size zero bytes long = omega arith
-length-groups f size (suc count) bytes long =
-    let first = long (take size bytes) in
-    let rest = length-groups f size count (drop size bytes) long in
-    let both = length-append (f (take size bytes)) (flat_map f (groups size count (drop size bytes))) in
+length-groups : (f : List ℕ → List ℕ) (size width count : ℕ) (bytes : List ℕ) → ((e : List ℕ) → length (f e) ≡ size)
+    → length (flat_map f (groups width count bytes)) ≡ count * size
+length-groups f size width zero bytes long = omega arith
+length-groups f size width (suc count) bytes long =
+    let first = long (take width bytes) in
+    let rest = length-groups f size width count (drop width bytes) long in
+    let both = length-append (f (take width bytes)) (flat_map f (groups width count (drop width bytes))) in
     let more : suc count * size ≡ size + count * size = omega arith in
     omega (arith, first, rest, both, more)
 
 -- ---- pieces
 
-abbrev number_piece : (List ℕ → List ℕ) → ℕ → ℕ → ℕ → ℕ → List ℕ → ℕ → ℕ → Pieces
-number_piece f base size start stride bytes k later = one_piece (base + k * size) (f (bytes_at (start + k * stride) size bytes)) later
+abbrev number_piece : (List ℕ → List ℕ) → ℕ → ℕ → ℕ → ℕ → ℕ → List ℕ → ℕ → ℕ → Pieces
+number_piece f base size width start stride bytes k later = one_piece (base + k * size) (f (bytes_at (start + k * stride) width bytes)) later
 
-numbers_size : (f : List ℕ → List ℕ) (base size start stride : ℕ) (bytes : List ℕ) (n k after : ℕ)
-    → after ≡ (moved_elements (λ i later. number_piece f base size start stride bytes i later) n k after).size
-numbers_size f base size start stride bytes zero k after = refl
-numbers_size f base size start stride bytes (suc n) k after = numbers_size f base size start stride bytes n (suc k) after
+numbers_size : (f : List ℕ → List ℕ) (base size width start stride : ℕ) (bytes : List ℕ) (n k after : ℕ)
+    → after ≡ (moved_elements (λ i later. number_piece f base size width start stride bytes i later) n k after).size
+numbers_size f base size width start stride bytes zero k after = refl
+numbers_size f base size width start stride bytes (suc n) k after = numbers_size f base size width start stride bytes n (suc k) after
 
-numbers_put : (f : List ℕ → List ℕ) (base size start : ℕ) (bytes : List ℕ) (n k after : ℕ) (out : List ℕ)
+numbers_put : (f : List ℕ → List ℕ) (base size width start : ℕ) (bytes : List ℕ) (n k after : ℕ) (out : List ℕ)
     → ((e : List ℕ) → length (f e) ≡ size) → base + k * size + n * size ≤ length out
-    → put_pieces (moved_elements (λ i later. number_piece f base size start size bytes i later) n k after).all out
-    ≡ put_at (base + k * size) (flat_map f (groups size n (drop (start + k * size) bytes))) out
-numbers_put f base size start bytes zero k after out long room = sym (put_none (base + k * size) out)
-numbers_put f base size start bytes (suc n) k after out long room =
+    → put_pieces (moved_elements (λ i later. number_piece f base size width start width bytes i later) n k after).all out
+    ≡ put_at (base + k * size) (flat_map f (groups width n (drop (start + k * width) bytes))) out
+numbers_put f base size width start bytes zero k after out long room = sym (put_none (base + k * size) out)
+numbers_put f base size width start bytes (suc n) k after out long room =
     let place = base + k * size in
-    let here = drop (start + k * size) bytes in
-    let first = f (take size here) in
-    let sized = long (take size here) in
+    let here = drop (start + k * width) bytes in
+    let first = f (take width here) in
+    let sized = long (take width here) in
     let step = next_place k size in
     let more : suc n * size ≡ size + n * size = omega arith in
-    let rest = flat_map f (groups size n (drop size here)) in
+    let rest = flat_map f (groups width n (drop width here)) in
     let put = put_at place first out in
     let whole : length put ≡ length out = put_long place first out (omega (arith, room, sized, more)) in
-    let on : start + suc k * size ≡ start + k * size + size = omega (arith, step) in
-    let behind : drop (start + suc k * size) bytes ≡ drop size here =
-    ap (λ (m : ℕ). drop m bytes) on ∙ sym (drop-drop size (start + k * size) bytes) in
+    let from_step = next_place k width in
+    let on : start + suc k * width ≡ start + k * width + width = omega (arith, from_step) in
+    let behind : drop (start + suc k * width) bytes ≡ drop width here =
+    ap (λ (m : ℕ). drop m bytes) on ∙ sym (drop-drop width (start + k * width) bytes) in
     let next : base + suc k * size ≡ place + length first = omega (arith, step, sized) in
-    numbers_put f base size start bytes n (suc k) after put long (omega (arith, room, whole, step, more))
-    ∙ ap (λ (l : List ℕ). put_at (base + suc k * size) (flat_map f (groups size n l)) put) behind
+    numbers_put f base size width start bytes n (suc k) after put long (omega (arith, room, whole, step, more))
+    ∙ ap (λ (l : List ℕ). put_at (base + suc k * size) (flat_map f (groups width n l)) put) behind
     ∙ ap (λ (m : ℕ). put_at m rest put) next ∙ put_more place first rest out (omega (arith, room, sized, more))
 
 -- all numbers of an array, from the first on
-all_put : (f : List ℕ → List ℕ) (base size start stride : ℕ) (bytes : List ℕ) (n after : ℕ) (out : List ℕ)
-    → ((e : List ℕ) → length (f e) ≡ size) → base + n * size ≤ length out → stride ≡ size
-    → put_pieces (moved_elements (λ i later. number_piece f base size start stride bytes i later) n 0 after).all out
-    ≡ put_at base (flat_map f (groups size n (drop start bytes))) out
-all_put f base size start stride bytes n after out long room same =
+all_put : (f : List ℕ → List ℕ) (base size width start stride : ℕ) (bytes : List ℕ) (n after : ℕ) (out : List ℕ)
+    → ((e : List ℕ) → length (f e) ≡ size) → base + n * size ≤ length out → stride ≡ width
+    → put_pieces (moved_elements (λ i later. number_piece f base size width start stride bytes i later) n 0 after).all out
+    ≡ put_at base (flat_map f (groups width n (drop start bytes))) out
+all_put f base size width start stride bytes n after out long room same =
     let P : ℕ → Type 0 = λ w.
-    put_pieces (moved_elements (λ i later. number_piece f base size start w bytes i later) n 0 after).all out
-    ≡ put_at base (flat_map f (groups size n (drop start bytes))) out in
+    put_pieces (moved_elements (λ i later. number_piece f base size width start w bytes i later) n 0 after).all out
+    ≡ put_at base (flat_map f (groups width n (drop start bytes))) out in
     let none : 0 * size ≡ 0 = omega arith in
+    let none_from : 0 * width ≡ 0 = omega arith in
     let first : base + 0 * size ≡ base = omega (arith, none) in
-    let begins : start + 0 * size ≡ start = omega (arith, none) in
+    let begins : start + 0 * width ≡ start = omega (arith, none_from) in
     subst P (sym same)
-    (numbers_put f base size start bytes n 0 after out long (omega (arith, room, first))
-    ∙ ap (λ (m : ℕ). put_at m (flat_map f (groups size n (drop (start + 0 * size) bytes))) out) first
-    ∙ ap (λ (m : ℕ). put_at base (flat_map f (groups size n (drop m bytes))) out) begins)
+    (numbers_put f base size width start bytes n 0 after out long (omega (arith, room, first))
+    ∙ ap (λ (m : ℕ). put_at m (flat_map f (groups width n (drop (start + 0 * width) bytes))) out) first
+    ∙ ap (λ (m : ℕ). put_at base (flat_map f (groups width n (drop m bytes))) out) begins)
 
 -- ---- elements
 
-kind_other : (kind : Kind) → false ≡ sameb the_type kind Boolean → kind ≢ Boolean
-kind_other Int other is = cc
-kind_other Unsigned other is = cc
-kind_other Char other is = cc
-kind_other Boolean other is = cc
-kind_other Enumeration other is = cc
+pub kind_width : (kind : Kind) (size : ℕ) → IsTrue (is_size_of kind size) → IsTrue (is_width size)
+kind_width Int size allowed = allowed
+kind_width Unsigned size allowed = allowed
+kind_width Char size allowed = grind (arith, nat_tests, allowed)
+kind_width Boolean size allowed = allowed
+kind_width Enumeration size allowed = allowed
 
 -- what stands there of an array of numbers
 pub numbers_there : (plan : Planned) (image : Image) (step : Step) (elements : Elements) (at : ℕ)
@@ -177,101 +178,105 @@ pub first_allowed : (image : Image) (at n size : ℕ) (kind from : Kind) (run : 
 first_allowed image at zero size kind from run there few some = absurd (some refl)
 first_allowed image at (suc n) size kind from run there few some = (there.each n (omega (arith, few))).1
 
--- what is known of numbers of one size on both sides
-pub record SideThere (image : Image) (at n size : ℕ) (elements : Elements) (run : Run) (from : Kind) : Type 0 where
-  pub within : run_start image at run + n * size ≤ length image.bytes
-  pub allowed : IsTrue (is_size_of from size)
+-- what is known of numbers that stand side by side
+pub record SideThere (image : Image) (at n width : ℕ) (elements : Elements) (run : Run) (from : Kind) : Type 0 where
+  pub within : run_start image at run + n * width ≤ length image.bytes
+  pub allowed : IsTrue (is_size_of from width)
 
-pub side_there : (image : Image) (at n size width : ℕ) (elements : Elements) (run : Run) (kind from : Kind)
+pub side_there : (image : Image) (at n width : ℕ) (elements : Elements) (run : Run) (kind from : Kind)
     → elements.part ≡ part.Number kind from width → elements.run ≡ Some run → AreNumbersThere image at elements.part elements.run
-    → AreFew image at n elements.run → width ≡ size → run.stride ≡ size → n ≢ 0 → SideThere image at n size elements run from
-side_there image at n size width elements run kind from part_is run_is there few same stride some =
+    → AreFew image at n elements.run → run.stride ≡ width → n ≢ 0 → SideThere image at n width elements run from
+side_there image at n width elements run kind from part_is run_is there few stride some =
     let There : Part → Type 0 = λ p. AreNumbersThere image at p elements.run in
-    let There' : Option Run → Type 0 = λ r. AreNumbersThere image at (part.Number kind from size) r in
-    let part_is' : elements.part ≡ part.Number kind from size = part_is ∙ ap (λ (w : ℕ). part.Number kind from w) same in
-    let numbers : IsRunThere image at (part.Number kind from size) (λ s. ⊤) run = subst There' run_is (subst There part_is' there) in
+    let There' : Option Run → Type 0 = λ r. AreNumbersThere image at (part.Number kind from width) r in
+    let numbers : IsRunThere image at (part.Number kind from width) (λ s. ⊤) run = subst There' run_is (subst There part_is there) in
     let most : n ≤ run_count image at run = subst (λ (r : Option Run). AreFew image at n r) run_is few in
     record {
-      within = numbers_end image at n size kind from run numbers most some stride;
-      allowed = first_allowed image at n size kind from run numbers most some;
+      within = numbers_end image at n width kind from run numbers most some stride;
+      allowed = first_allowed image at n width kind from run numbers most some;
     }
 
-pub side_is : (image : Image) (at n size width start count : ℕ) (elements : Elements) (run : Run) (kind from : Kind) (bytes : List ℕ)
-    → SideThere image at n size elements run from → elements.part ≡ part.Number kind from width → elements.run ≡ Some run
-    → width ≡ size → run.stride ≡ size → false ≡ sameb the_type from Boolean → start ≡ run_start image at run → count ≡ n * size
-    → bytes ≡ bytes_at start count image.bytes → AreSideBySide image at n size elements bytes
-side_is image at n size width start count elements run kind from bytes there part_is run_is same stride other start_is count_is are =
+pub side_is : (image : Image) (at n width start count : ℕ) (elements : Elements) (run : Run) (kind from : Kind) (bytes : List ℕ)
+    → SideThere image at n width elements run from → elements.part ≡ part.Number kind from width → elements.run ≡ Some run
+    → run.stride ≡ width → start ≡ run_start image at run → count ≡ n * width
+    → bytes ≡ bytes_at start count image.bytes → AreSideBySide image at n elements from width bytes
+side_is image at n width start count elements run kind from bytes there part_is run_is stride start_is count_is are =
     record {
       kind = kind;
-      from = from;
       run = run;
-      part_is = part_is ∙ ap (λ (w : ℕ). part.Number kind from w) same;
+      part_is = part_is;
       run_is = run_is;
       stride_is = stride;
-      other = kind_other from other;
       allowed = there.allowed;
       within = there.within;
       are = are ∙ ap (λ (s : ℕ). bytes_at s count image.bytes) start_is
           ∙ ap (λ (m : ℕ). bytes_at (run_start image at run) m image.bytes) count_is;
     }
 
-pub side_long : (image : Image) (at n size : ℕ) (elements : Elements) (bytes : List ℕ) → AreSideBySide image at n size elements bytes
-    → length bytes ≡ n * size
-side_long image at n size elements bytes s =
+pub side_long : (image : Image) (at n width : ℕ) (elements : Elements) (from : Kind) (bytes : List ℕ)
+    → AreSideBySide image at n elements from width bytes → length bytes ≡ n * width
+side_long image at n width elements from bytes s =
     let start = run_start image at s.run in
     let left = length-drop start image.bytes in
-    let taken = length-take (n * size) (drop start image.bytes) in
+    let taken = length-take (n * width) (drop start image.bytes) in
     let within = s.within in
     ap length s.are ∙ omega (arith, left, taken, within)
 
-pub side_width : (image : Image) (at n size : ℕ) (elements : Elements) (bytes : List ℕ) → AreSideBySide image at n size elements bytes
-    → IsTrue (is_width size)
-side_width image at n size elements bytes s = by s.from s.allowed
-  where
-    by : (kind : Kind) → IsTrue (is_size_of kind size) → IsTrue (is_width size)
-    by Int allowed = allowed
-    by Unsigned allowed = allowed
-    by Char allowed = grind (arith, nat_tests, allowed)
-    by Boolean allowed = allowed
-    by Enumeration allowed = allowed
+-- the receiver's numbers have a size that numbers have
+pub out_width : (plan : Planned) (image : Image) (step : Step) (elements : Elements) (at n width : ℕ) (from : Kind) (bytes : List ℕ)
+    → AreSideBySide image at n elements from width bytes → CanMoveList plan image step elements at → IsTrue (is_width step.task.size)
+out_width plan image step elements at n width from bytes s can =
+    let Sound : Part → Type 0 = λ p. IsSoundPart plan.pointer step.task.size p
+    (λ size. IsSound plan.pointer (inside plan step) can.levels size) in
+    kind_width s.kind step.task.size (subst Sound s.part_is can.sound)
 
-pub side_whole : (image : Image) (at n size : ℕ) (elements : Elements) (bytes : List ℕ) → AreSideBySide image at n size elements bytes
-    → length bytes % size ≡ 0
-side_whole image at n size elements bytes s = ap (λ (m : ℕ). m % size) (side_long image at n size elements bytes s) ∙ mul-mod_left n size
-
-some_size : (size : ℕ) → IsTrue (is_width size) → 0 < size
+pub some_size : (size : ℕ) → IsTrue (is_width size) → 0 < size
 some_size size width = grind (arith, nat_tests, width)
 
 -- the numbers of the slice are those of the array
-side_groups : (image : Image) (at n size : ℕ) (elements' : Elements) (bytes : List ℕ) → (s : AreSideBySide image at n size elements' bytes)
-    → elements size bytes ≡ groups size n (drop (run_start image at s.run) image.bytes)
-side_groups image at n size elements' bytes s =
+side_groups : (image : Image) (at n width : ℕ) (elements' : Elements) (from : Kind) (bytes : List ℕ)
+    → (s : AreSideBySide image at n elements' from width bytes)
+    → elements width bytes ≡ groups width n (drop (run_start image at s.run) image.bytes)
+side_groups image at n width elements' from bytes s =
     let here = drop (run_start image at s.run) image.bytes in
-    let some = some_size size (side_width image at n size elements' bytes s) in
-    let count : length bytes / size ≡ n = ap (λ (m : ℕ). m / size) (side_long image at n size elements' bytes s) ∙ mul-div_cancel n some in
-    ap (λ (m : ℕ). groups size m bytes) count ∙ ap (groups size n) s.are ∙ groups_take size n here
+    let some = some_size width (kind_width from width s.allowed) in
+    let count : length bytes / width ≡ n = ap (λ (m : ℕ). m / width) (side_long image at n width elements' from bytes s)
+    ∙ mul-div_cancel n some in
+    ap (λ (m : ℕ). groups width m bytes) count ∙ ap (groups width n) s.are ∙ groups_take width n here
 
-pub numbers_moved : (plan : Planned) (image : Image) (step : Step) (elements : Elements) (at base n size : ℕ) (bytes out out' : List ℕ)
-    → AreSideBySide image at n step.task.size elements bytes → base + n * step.task.size ≤ length out
-    → IsPutOver base (AreReordered plan.order image.order step.task.size bytes) (length bytes) out out'
+-- what the array of a step becomes
+abbrev pub numbers_of : Planned → Image → Step → Kind → ℕ → List ℕ → List ℕ
+numbers_of plan image step from width bytes = rewritten from plan.order step.task.size image.order width bytes
+
+pub numbers_long : (plan : Planned) (image : Image) (step : Step) (elements : Elements) (at n width : ℕ) (from : Kind) (bytes : List ℕ)
+    → AreSideBySide image at n elements from width bytes → length (numbers_of plan image step from width bytes) ≡ n * step.task.size
+numbers_long plan image step elements at n width from bytes s =
+    let f : List ℕ → List ℕ = λ e. digits plan.order step.task.size (number image.order from e) in
+    ap (λ (l : List (List ℕ)). length (flat_map f l)) (side_groups image at n width elements from bytes s)
+    ∙ length-groups f step.task.size width n (drop (run_start image at s.run) image.bytes)
+    (λ e. length-digits plan.order step.task.size (number image.order from e))
+
+pub numbers_moved : (plan : Planned) (image : Image) (step : Step) (elements : Elements) (at base n size width : ℕ) (from : Kind)
+    (bytes out out' : List ℕ)
+    → AreSideBySide image at n elements from width bytes → base + n * step.task.size ≤ length out
+    → out' ≡ put_at base (numbers_of plan image step from width bytes) out
     → IsPut (list_moved plan image step elements at base n size) size out out'
-numbers_moved plan image step elements at base n size bytes out out' s room put =
-    let width = step.task.size in
+numbers_moved plan image step elements at base n size width from bytes out out' s room put =
+    let to = step.task.size in
     let machine = machine_in plan in
     let inside_at : ℕ → ℕ → ℕ → Pieces = λ s' t' later. moved image machine (inside plan step) s' t' later in
-    let f : List ℕ → List ℕ = λ e. digits plan.order width (number image.order s.from e) in
+    let f : List ℕ → List ℕ = λ e. digits plan.order to (number image.order from e) in
     let start = run_start image at s.run in
     let Put : Part → Option Run → Type 0 = λ p r.
-    IsPut (moved_elements (λ k later. moved_part image machine width p inside_at (source_place image at r k) (base + k * width) later)
+    IsPut (moved_elements (λ k later. moved_part image machine to p inside_at (source_place image at r k) (base + k * to) later)
     n 0 size) size out out' in
-    let made : put.bytes ≡ flat_map f (groups width n (drop start image.bytes)) =
-    put.holds s.from s.other s.allowed ∙ ap (flat_map f) (side_groups image at n width elements bytes s) in
-    let numbers : Put (part.Number s.kind s.from width) (Some s.run) =
+    let numbers : Put (part.Number s.kind from width) (Some s.run) =
     record {
-      sized = numbers_size f base width start s.run.stride image.bytes n 0 size;
-      put = put.put ∙ ap (λ (l : List ℕ). put_at base l out) made
-          ∙ sym (all_put f base width start s.run.stride image.bytes n size out
-          (λ e. length-digits plan.order width (number image.order s.from e)) room s.stride_is);
+      sized = numbers_size f base to width start s.run.stride image.bytes n 0 size;
+      put = put
+          ∙ ap (λ (l : List (List ℕ)). put_at base (flat_map f l) out) (side_groups image at n width elements from bytes s)
+          ∙ sym (all_put f base to width start s.run.stride image.bytes n size out
+          (λ e. length-digits plan.order to (number image.order from e)) room s.stride_is);
     } in
     subst (λ (p : Part). Put p elements.run) (sym s.part_is)
-    (subst (λ (r : Option Run). Put (part.Number s.kind s.from width) r) (sym s.run_is) numbers)
+    (subst (λ (r : Option Run). Put (part.Number s.kind from width) r) (sym s.run_is) numbers)

@@ -1,6 +1,5 @@
 -- Pieces put on the bytes of an output.
 use Rattle.std.specs.Prelude.{◌≡◌, ℕ, [], ◌∷◌, ◌++◌, List, length, replicate, Option, Some, None}
-use Rattle.evp_format.specs.Bytes.{put_at}
 use Rattle.evp_format.specs.Datum.{Datum, num, null, text, list, rec}
 use Rattle.evp_format.specs.Packing.{Pieces, put_pieces}
 
@@ -20,10 +19,3 @@ pub record IsPut (pieces : Pieces) (size : ℕ) (old new : List ℕ) : Type 0 wh
 -- the pieces from any size on were put on zeros, and add no block
 abbrev pub IsFilled : (ℕ → Pieces) → List ℕ → Type 0
 IsFilled pieces new = (size : ℕ) → IsPut (pieces size) size (replicate (length new) 0) new
-
--- bytes of which this holds stand in the place of so many from t on
-pub record IsPutOver (t : ℕ) (Holds : List ℕ → Type 0) (count : ℕ) (old new : List ℕ) : Type 0 where
-  pub bytes : List ℕ
-  pub holds : Holds bytes
-  pub long : length bytes ≡ count
-  pub put : new ≡ put_at t bytes old

@@ -1,9 +1,8 @@
 -- A step of a plan at work on a sender's record.
-use Rattle.std.specs.Prelude.{◌≡◌, ◌≢◌, IsTrue, List, [], ℕ, ◌+◌, ◌*◌, ◌<◌, ◌≤◌, length, get_or, Option, Some, None}
+use Rattle.std.specs.Prelude.{◌≡◌, IsTrue, List, [], ℕ, ◌+◌, ◌*◌, ◌<◌, ◌≤◌, length, get_or, Option, Some, None}
 use Rattle.std.specs.Prelude.{⊤}
 use Rattle.evp_base.specs.Numbers.{is_size_of}
 use Rattle.evp_base.specs.declared.kind.Kind.{Kind}
-use Rattle.evp_base.specs.declared.kind.Kind.TheVariants.{Boolean}
 use Rattle.evp_format.specs.Bytes.{bytes_at}
 use Rattle.evp_format.specs.Viewing.{Image}
 use Rattle.evp_plan.specs.declared.step.Step.{Step}
@@ -166,20 +165,18 @@ AreNumbersThere image at (part.Number kind from width) (Some run) =
 AreNumbersThere image at part.Text (Some run) = ⊤
 AreNumbersThere image at part.Record (Some run) = ⊤
 
--- the elements are numbers of one size on both sides, no booleans, and these are the n that stand
--- side by side in the sender's array
-pub record AreSideBySide (image : Image) (at n size : ℕ) (elements : Elements) (bytes : List ℕ) :
-    Type 0 where
+-- the elements are made from numbers of this kind and size, and these are the n that stand side by
+-- side in the sender's array
+pub record AreSideBySide (image : Image) (at n : ℕ) (elements : Elements) (from : Kind) (width : ℕ)
+    (bytes : List ℕ) : Type 0 where
   pub kind : Kind
-  pub from : Kind
   pub run : Run
-  pub part_is : elements.part ≡ part.Number kind from size
+  pub part_is : elements.part ≡ part.Number kind from width
   pub run_is : elements.run ≡ Some run
-  pub stride_is : run.stride ≡ size
-  pub other : from ≢ Boolean
-  pub allowed : IsTrue (is_size_of from size)
-  pub within : run_start image at run + n * size ≤ length image.bytes
-  pub are : bytes ≡ bytes_at (run_start image at run) (n * size) image.bytes
+  pub stride_is : run.stride ≡ width
+  pub allowed : IsTrue (is_size_of from width)
+  pub within : run_start image at run + n * width ≤ length image.bytes
+  pub are : bytes ≡ bytes_at (run_start image at run) (n * width) image.bytes
 
 -- the sender's array begins there, and element k is inside the bytes
 abbrev pub IsElementThere : Image → ℕ → ℕ → Option Run → Type 0

@@ -1,15 +1,14 @@
 //! The sender's arrays, and those whose elements are written at once.
 
-ghost use Rattle.std.specs.Prelude.{◌≡◌, ◌+◌, ◌*◌, ◌%◌, ◌<◌, ◌≤◌, ℕ};
+ghost use Rattle.std.specs.Prelude.{◌≡◌, ◌+◌, ◌*◌, ◌<◌, ◌≤◌, ℕ};
 ghost use Rattle.std.specs.Prelude.{length, IsTrue, Option, Some, None, IfSome};
-ghost use Rattle.evp_base.specs.Numbers.{is_width};
-ghost use Rattle.evp_format.specs.Bytes.{bytes_at};
+ghost use Rattle.evp_base.specs.Numbers.{is_width, is_size_of};
+ghost use Rattle.evp_format.specs.Bytes.{bytes_at, put_at};
 ghost use Rattle.evp_plan.specs.Moving.{moved_count, source_place};
 ghost use Rattle.evp_plan.specs.Cells.{painted_each};
 ghost use Rattle.evp_plan.specs.Ready.{IsStartThere};
 ghost use Rattle.evp_plan.specs.Standing.{run_start, element_place};
-ghost use Rattle.evp_wide.specs.Elements.{AreReordered};
-ghost use Rattle.evp_runner.specs.Pieces.{IsPutOver};
+ghost use Rattle.evp_wide.specs.Elements.{rewritten};
 ghost use Rattle.evp_runner.specs.StepIn.{image_in, IsCountThere, IsElementThere, AreFew};
 ghost use Rattle.evp_runner.specs.StepIn.{AreNumbersThere, AreSideBySide, BeginsThere};
 ghost use Rattle.evp_runner.specs.StepIn.{AreRecordMoves, first_place};
@@ -18,7 +17,7 @@ use crate::moving::Move;
 use crate::reading::{count_of, start_of};
 use evp_base::Kind;
 use evp_plan::{Elements, Moves, Part, Run, Series, Step};
-use evp_wide::reorder;
+use evp_wide::rewrite;
 
 // How many elements are written: as many as are wanted, or those of a shorter array.
 pub(crate) fn moved_count(work: &Move, at: usize, n: u128, elements: &Elements) -> u128
@@ -35,6 +34,14 @@ pub(crate) fn moved_count(work: &Move, at: usize, n: u128, elements: &Elements) 
     }
 }
 
+// Numbers of one kind and size that stand side by side.
+#[derive(Clone, Copy)]
+pub(crate) struct Numbers<'a> {
+    pub(crate) bytes: &'a [u8],
+    pub(crate) kind: Kind,
+    pub(crate) width: u32,
+}
+
 // So many bytes from a place on.
 fn part_of(bytes: &[u8], start: usize, count: usize) -> &[u8]
     requires { start + count ≤ length bytes.now }
@@ -43,46 +50,60 @@ fn part_of(bytes: &[u8], start: usize, count: usize) -> &[u8]
     &bytes[start..start + count]
 }
 
-// The n numbers of the sender's array, where they stand side by side and the receiver's have the
-// same size.
+// The n numbers of the sender's array, where they stand side by side.
 pub(crate) fn side_by_side<'a>(
     work: &Move<'a>,
-    size: u32,
     elements: &Elements,
     at: usize,
     n: usize,
-) -> Option<&'a [u8]>
+) -> Option<Numbers<'a>>
     requires at_inside { at ≤ length work.now.sender.bytes.now }
     requires few { AreFew (image_in work.now.sender) at n elements.now.run }
     requires there { AreNumbersThere (image_in work.now.sender) at elements.now.part elements.now.run }
-    ensures { IfSome result (λ bytes. AreSideBySide (image_in work.now.sender) at n size elements.now
-        bytes.now) }
+    ensures { IfSome result (λ numbers. AreSideBySide (image_in work.now.sender) at n elements.now
+        numbers.kind numbers.width numbers.bytes.now) }
 {
-    let Part::Number(_, from, width) = elements.part else {
+    let Part::Number(_, kind, width) = elements.part else {
         return None;
     };
     let Some(run) = &elements.run else {
         return None;
     };
-    if from == Kind::Boolean || width != size || run.stride != size || n == 0 {
+    if run.stride != width || n == 0 {
         return None;
     }
     let start = start_of(&work.sender, at, run);
-    let count = n * size as usize;
+    let count = n * width as usize;
     let bytes = part_of(work.sender.bytes, start, count);
-    Some(bytes)
+    Some(Numbers { bytes, kind, width })
 }
 
-/// Numbers of this size, from `base` on.
-pub(crate) fn put_numbers(work: &Move, size: u32, bytes: &[u8], out: &mut [u8], base: usize)
+/// The n numbers as numbers of this size, from `base` on.
+pub(crate) fn put_numbers(
+    work: &Move,
+    size: u32,
+    numbers: &Numbers,
+    n: usize,
+    out: &mut [u8],
+    base: usize,
+)
     requires width { IsTrue (is_width size) }
-    requires whole { length bytes.now % size ≡ 0 }
-    requires room { base + length bytes.now ≤ length out.old }
-    ensures { IsPutOver base (AreReordered work.now.plan.now.order work.now.sender.order size
-        bytes.now) (length bytes.now) out.old out.new }
+    requires allowed { IsTrue (is_size_of numbers.now.kind numbers.now.width) }
+    requires whole { length numbers.now.bytes.now ≡ n * numbers.now.width }
+    requires room { base + n * size ≤ length out.old }
+    ensures { out.new ≡ put_at base (rewritten numbers.now.kind work.now.plan.now.order size
+        work.now.sender.order numbers.now.width numbers.now.bytes.now) out.old }
 {
-    let place = &mut out[base..base + bytes.len()];
-    reorder(place, work.plan.order(), bytes, work.sender.order, size);
+    let place = &mut out[base..base + n * size as usize];
+    rewrite(
+        place,
+        size,
+        work.plan.order(),
+        numbers.bytes,
+        numbers.width,
+        work.sender.order,
+        numbers.kind,
+    );
 }
 
 /// The moves that make each element of an array, where they are records that gathers make.

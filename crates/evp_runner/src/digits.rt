@@ -4,8 +4,15 @@ ghost use Rattle.std.specs.Prelude.{◌≡◌, ◌+◌, ◌*◌, ◌-◌, ◌%�
 ghost use Rattle.std.specs.Prelude.{pos, length, IsTrue};
 ghost use Rattle.evp_base.specs.Numbers.{digits, residue, is_width};
 ghost use Rattle.evp_format.specs.Bytes.{put_at};
+ghost use Rattle.evp_plan.specs.declared.step.Origin.TheVariants.{Standing};
+ghost use Rattle.evp_plan.specs.Ready.{IsOriginThere};
+ghost use Rattle.evp_plan.specs.Standing.{origin_number};
+ghost use Rattle.evp_runner.specs.StepIn.{image_in};
 
+use crate::moving::Move;
 use evp_base::{Order, put_number};
+use evp_plan::{Origin, Source};
+use evp_wide::rewrite_number;
 
 /// These bytes in the place of those from t on.
 pub(crate) fn put_bytes(out: &mut [u8], t: usize, bytes: &[u8])
@@ -66,4 +73,49 @@ pub(crate) fn put_digits(out: &mut [u8], t: usize, order: Order, size: u32, numb
 {
     let place = &mut out[t..t + size as usize];
     put_number(place, order, size, low(number, size) as i128);
+}
+
+/// The number that a receiver's field gets from the record at `at`, in the place of the bytes from
+/// t on.
+pub(crate) fn move_number(
+    work: &Move,
+    at: usize,
+    origin: &Origin,
+    out: &mut [u8],
+    t: usize,
+    size: u32,
+)
+    requires there { IsOriginThere (image_in work.now.sender) at origin.now }
+    requires at_inside { at ≤ length work.now.sender.bytes.now }
+    requires allowed { IsTrue (is_width size) }
+    requires room { t + size ≤ length out.old }
+    ensures { out.new ≡ put_at t (digits work.now.plan.now.order size
+        (origin_number (image_in work.now.sender) at origin.now)) out.old }
+{
+    match origin {
+        Origin::Standing(source) => move_standing(work, at, source, out, t, size),
+        Origin::Stated(number) => put_digits(out, t, work.plan.order(), size, *number),
+    }
+}
+
+// The same for a number that stands there.
+fn move_standing(work: &Move, at: usize, source: &Source, out: &mut [u8], t: usize, size: u32)
+    requires there { IsOriginThere (image_in work.now.sender) at (Standing source.now) }
+    requires at_inside { at ≤ length work.now.sender.bytes.now }
+    requires allowed { IsTrue (is_width size) }
+    requires room { t + size ≤ length out.old }
+    ensures { out.new ≡ put_at t (digits work.now.plan.now.order size
+        (origin_number (image_in work.now.sender) at (Standing source.now))) out.old }
+{
+    let s = at + source.offset as usize;
+    let bytes = work.sender.bytes;
+    let from = &bytes[s..s + source.size as usize];
+    let place = &mut out[t..t + size as usize];
+    rewrite_number(
+        place,
+        work.plan.order(),
+        from,
+        work.sender.order,
+        source.kind,
+    );
 }

@@ -8,10 +8,9 @@ ghost use Rattle.evp_plan.specs.Program.{program_at};
 ghost use Rattle.evp_runner.specs.Pieces.{IsFilled};
 ghost use Rattle.evp_runner.specs.StepIn.{image_in, inside, CanMove, CanMoveList};
 
-use crate::arrays::{moved_count, side_by_side};
+use crate::arrays::{moved_count, put_numbers, side_by_side};
 use crate::moving::Move;
 use evp_plan::{Elements, Op, Step};
-use evp_wide::reorder;
 
 // Writes all of a record, whatever stood there, by the steps of that number, where they are one
 // static array of numbers that stand side by side. Else it writes nothing and answers false.
@@ -49,15 +48,9 @@ fn fill_array(work: &Move, step: &Step, count: u32, elements: &Elements, out: &m
     if n != u128::from(count) || count as usize * step.task.size as usize != out.len() {
         return false;
     }
-    let Some(bytes) = side_by_side(work, step.task.size, elements, 0, count as usize) else {
+    let Some(numbers) = side_by_side(work, elements, 0, count as usize) else {
         return false;
     };
-    reorder(
-        out,
-        work.plan.order(),
-        bytes,
-        work.sender.order,
-        step.task.size,
-    );
+    put_numbers(work, step.task.size, &numbers, count as usize, out, 0);
     true
 }

@@ -15,9 +15,9 @@ ghost use Rattle.evp_runner.specs.StepIn.{CanMove, CanMoveStep, CanMoveList, Can
 use crate::arrays::{
     first_place, moved_count, put_numbers, put_records, record_moves, side_by_side, source_place,
 };
-use crate::digits::put_digits;
+use crate::digits::{move_number, put_digits};
 use crate::pointers::{move_text, put_pointer};
-use crate::reading::{count_from, number_from, number_there};
+use crate::reading::{count_from, number_there};
 use crate::sender::Sender;
 use evp_plan::{Elements, Op, Origin, Part, Plan, Series, Step};
 
@@ -90,8 +90,7 @@ fn move_step(
     let t = t + step.task.offset as usize;
     match &step.task.op {
         Op::Number(_, origin) => {
-            let number = number_from(&work.sender, at, origin);
-            put_digits(out, t, work.plan.order(), step.task.size, number);
+            move_number(work, at, origin, out, t, step.task.size);
             size
         }
         Op::Text(None) => move_text(work, None, out, t, size),
@@ -205,8 +204,8 @@ fn move_elements(
         (inside work.now.plan.now step.now)) at k (base + k * step.now.task.size)) n 0 size) result
         out.old out.new }
 {
-    if let Some(bytes) = side_by_side(work, step.task.size, elements, at, n as usize) {
-        put_numbers(work, step.task.size, bytes, out, base);
+    if let Some(numbers) = side_by_side(work, elements, at, n as usize) {
+        put_numbers(work, step.task.size, &numbers, n as usize, out, base);
         return size;
     }
     if let Some(run) = &elements.run {

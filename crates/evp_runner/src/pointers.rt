@@ -8,9 +8,10 @@ ghost use Rattle.evp_plan.specs.Planned.{machine_in};
 ghost use Rattle.evp_runner.specs.Pieces.{IsPut};
 ghost use Rattle.evp_runner.specs.StepIn.{image_in, IsTextSource, text_source};
 
-use crate::digits::{put_bytes, put_digits};
+use crate::digits::put_bytes;
 use crate::moving::Move;
 use crate::reading::block_there;
+use evp_wide::put_word;
 
 /// The pointer to the block at q, or 0.
 pub(crate) fn put_pointer(work: &Move, out: &mut [u8], t: usize, q: usize)
@@ -18,8 +19,8 @@ pub(crate) fn put_pointer(work: &Move, out: &mut [u8], t: usize, q: usize)
     ensures { out.new ≡ put_at t (digits work.now.plan.now.order work.now.plan.now.pointer (pos q))
         out.old }
 {
-    let size = u32::from(work.plan.pointer());
-    put_digits(out, t, work.plan.order(), size, q as i128);
+    let size = work.plan.pointer() as usize;
+    put_word(&mut out[t..t + size], work.plan.order(), q as u64);
 }
 
 /// The text whose pointer stands at s, or null; answers the size behind its block.

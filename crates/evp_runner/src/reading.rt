@@ -14,6 +14,7 @@ ghost use Rattle.evp_runner.specs.StepIn.{image_in};
 use crate::sender::Sender;
 use evp_base::{Kind, get_number};
 use evp_plan::{Origin, Run};
+use evp_wide::get_word;
 use memchr::memchr;
 
 // The number of this kind that stands at s.
@@ -47,7 +48,8 @@ fn pointer_there(sender: &Sender, s: usize) -> usize
     requires { s + sender.now.pointer ≤ length sender.now.bytes.now }
     ensures { result ≡ pointer_at (image_in sender.now) s }
 {
-    number_there(sender, s, Kind::Unsigned, u32::from(sender.pointer)) as usize
+    let bytes = sender.bytes;
+    get_word(&bytes[s..s + sender.pointer as usize], sender.order) as usize
 }
 
 // How many bytes stand before the first zero byte, where there is one.

@@ -154,6 +154,14 @@ element_made f out part from out_size from_size element number k long below is p
     ∙ sym (flat_map-append f (groups from_size element from) (new ∷ []))
     ∙ ap (flat_map f) (sym (groups-add from_size element 1 from))
 
+-- the room of one element
+pub element_long : (out : List ℕ) (size element number k : ℕ) → length out ≡ number * size → element < number → k ≡ size
+    → length (take k (drop (element * size) out)) ≡ size
+element_long out size element number k long below is =
+    let next : suc element * size ≤ number * size = mul-le-mul_right size below in
+    let more = suc-mul element size in
+    omega (arith, length-take k (drop (element * size) out), length-drop (element * size) out)
+
 -- what one element of a mask picks into a part of the answer
 pub part_picked : (out part from mask : List ℕ) (out_size from_size count element number k j : ℕ)
     → length out ≡ number * out_size → element < number → k ≡ out_size → j ≡ from_size → count * out_size ≡ 16 → length mask ≡ 16
@@ -162,8 +170,7 @@ pub part_picked : (out part from mask : List ℕ) (out_size from_size count elem
 part_picked out part from mask out_size from_size count element number k j long below k_is j_is whole sixteen is =
     let next : suc element * out_size ≤ number * out_size = mul-le-mul_right out_size below in
     let more = suc-mul element out_size in
-    let held : length (take k (drop (element * out_size) out)) ≡ out_size = omega
-    (arith, length-take k (drop (element * out_size) out), length-drop (element * out_size) out) in
+    let held = element_long out out_size element number k long below k_is in
     let few = small count out_size whole in
     let now : part ≡ gathered (take out_size mask) (take from_size (drop (element * from_size) from)) =
     is ∙ ap (λ n. gathered (take n mask) (take j (drop (element * from_size) from))) held

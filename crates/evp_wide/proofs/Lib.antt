@@ -3,5 +3,5 @@ pub mod Gathers
 pub mod Signs
 pub mod Blocks
 pub mod Turned
-pub mod Wider
 pub mod Reordered
+pub mod Residues

@@ -1,17 +1,22 @@
-//! Arrays of numbers moved by lanes of sixteen bytes: swapped, widened, gathered.
+//! Arrays of numbers moved at once: swapped and gathered by lanes of sixteen bytes, and written in
+//! another size.
 #![tactic(auto)]
 
 mod elements;
 mod lanes;
 mod mover;
+mod numbers;
 mod orders;
 mod swap;
 mod widen;
+mod words;
 
 pub use lanes::{Blend, Mask, gather, gather_blend, gather_or, gather_signs};
+pub use numbers::rewrite;
 pub use orders::reorder;
 pub use swap::{swap2, swap4, swap8};
 pub use widen::{widen_signed, widen_unsigned};
+pub use words::{get_word, put_word, rewrite_number};
 
 #[cfg(test)]
 mod tests;

@@ -1,7 +1,7 @@
 ghost use Rattle.std.specs.Prelude.{◌≡◌, ◌%◌, ◌≤◌, ◌*◌, length};
 
 use super::*;
-use evp_base::Order;
+use evp_base::{Kind, Order};
 use std::test::*;
 
 #[test]
@@ -64,6 +64,32 @@ fn numbers_keep_their_value(rt: HostRuntime) -> Result<(), Fail> {
             "number {k}"
         );
     }
+    Ok(())
+}
+
+#[test]
+fn numbers_change_their_size(rt: HostRuntime) -> Result<(), Fail> {
+    let mut out = [0xff; 4];
+    // -2 and 258 in four bytes, as two bytes
+    let wide = [0xff, 0xff, 0xff, 0xfe, 0, 0, 1, 2];
+    rewrite(&mut out, 2, Order::Little, &wide, 4, Order::Big, Kind::Int);
+    assert_eq!(rt; out, [0xfe, 0xff, 2, 1]);
+    // any bits of a boolean are 1
+    let truths = [0, 4, 0, 0];
+    rewrite(
+        &mut out,
+        2,
+        Order::Big,
+        &truths,
+        2,
+        Order::Big,
+        Kind::Boolean,
+    );
+    assert_eq!(rt; out, [0, 1, 0, 0]);
+    rewrite_number(&mut out, Order::Big, &[0x80], Order::Big, Kind::Int);
+    assert_eq!(rt; out, [0xff, 0xff, 0xff, 0x80]);
+    put_word(&mut out, Order::Little, get_word(&wide, Order::Big));
+    assert_eq!(rt; out, [2, 1, 0, 0]);
     Ok(())
 }
 

@@ -1,10 +1,11 @@
 //! Numbers of one order and size written in another order and a size that is no less.
-ghost use Rattle.std.specs.Prelude.{◌≡◌, ◌*◌, ◌/◌, ◌%◌, ◌≤◌, ◌⊎◌, IsTrue, length};
-ghost use Rattle.evp_base.specs.Numbers.{is_width, is_size_of};
+ghost use Rattle.std.specs.Prelude.{◌≡◌, ◌*◌, ◌/◌, ◌%◌, ◌≤◌, IsTrue, length};
+ghost use Rattle.evp_base.specs.Numbers.{is_width};
 ghost use Rattle.evp_base.specs.declared.kind.Kind.TheVariants.{Int, Unsigned};
 ghost use Rattle.evp_wide.specs.Elements.{rewritten};
 
-use evp_base::{Kind, Order, get_number, put_number};
+use crate::numbers::rewrite;
+use evp_base::{Kind, Order};
 
 /// Writes each unsigned number of `from`, of `from_size` bytes, as a number of `out_size` bytes.
 /// Sizes are 1, 2, 4 or 8. Takes no memory.
@@ -58,35 +59,4 @@ pub fn widen_signed(
         from_order,
         Kind::Int,
     );
-}
-
-// Reads each number and writes it in the other size.
-fn rewrite(
-    out: &mut [u8],
-    out_size: u32,
-    out_order: Order,
-    from: &[u8],
-    from_size: u32,
-    from_order: Order,
-    kind: Kind,
-)
-    requires sizes { IsTrue (is_width out_size) × IsTrue (is_width from_size)
-        × (from_size ≤ out_size) }
-    requires kind { (kind ≡ Unsigned) ⊎ (kind ≡ Int) }
-    requires whole { length from.now % from_size ≡ 0 }
-    requires out { length out.old ≡ length from.now / from_size * out_size }
-    ensures { out.new ≡ rewritten kind out_order out_size from_order from_size from.now }
-{
-    let to = out_size as usize;
-    let width = from_size as usize;
-    for element in 0..from.len() / width {
-        let number = &from[element * width..element * width + width];
-        let n = get_number(number, from_order, kind, from_size);
-        put_number(
-            &mut out[element * to..element * to + to],
-            out_order,
-            out_size,
-            n,
-        );
-    }
 }

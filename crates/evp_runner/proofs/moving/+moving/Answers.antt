@@ -15,7 +15,7 @@ use Rattle.evp_runner.proofs.Measured.{found_steps, at_index, own_index, some_by
 use Rattle.evp_runner.proofs.Moved.{begins_there, rest_moved, step_fits, step_next, moving_end, steps_end, record_moved, can_move_each, element_one}
 use Rattle.evp_runner.proofs.Moved.{one_grows, element_fits, element_moved, elements_end, can_move_part, few_of, most_of, element_room}
 use Rattle.evp_runner.proofs.Moved.{list_moved, many_fits, many_put}
-use Rattle.evp_runner.proofs.SideBySide.{numbers_there, numbers_moved}
+use Rattle.evp_runner.proofs.SideBySide.{numbers_there, out_width, side_long, numbers_moved}
 use Rattle.evp_runner.proofs.Records.{run_begins, records_reach, records_room, records_put}
 use Rattle.evp_runner.proofs.Painting.{paints, paints_reach, paints_cells, paints_put}
 use Rattle.evp_runner.proofs.moving.+moving.Goals as goal
@@ -334,10 +334,23 @@ move_elements-overflow_cast-k-end t c =
     let room = c.requires.room in
     omega (arith, room, more)
 
+pub move_elements-put_numbers-requires-clause-width : goal.move_elements-put_numbers-requires-clause-width
+move_elements-put_numbers-requires-clause-width t c =
+    let numbers = c.in-Some.numbers in
+    out_width c.args.work.now.plan.now (image_in c.args.work.now.sender) c.args.step.now c.args.elements.now c.args.at c.args.n
+    numbers.width numbers.kind numbers.bytes.now c.in-Some.ensures c.requires.can
+
+pub move_elements-put_numbers-requires-clause-whole : goal.move_elements-put_numbers-requires-clause-whole
+move_elements-put_numbers-requires-clause-whole t c =
+    let numbers = c.in-Some.numbers in
+    side_long (image_in c.args.work.now.sender) c.args.at c.args.n numbers.width c.args.elements.now numbers.kind numbers.bytes.now
+    c.in-Some.ensures
+
 pub move_elements-returns-in-Some : goal.move_elements-returns-in-Some
 move_elements-returns-in-Some t c =
+    let numbers = c.in-Some.numbers in
     numbers_moved c.args.work.now.plan.now (image_in c.args.work.now.sender) c.args.step.now c.args.elements.now c.args.at c.args.base
-    c.args.n c.args.size c.in-Some.bytes.now c.args.out.now c.put_numbers.new.out c.in-Some.ensures c.requires.room
+    c.args.n c.args.size numbers.width numbers.kind numbers.bytes.now c.args.out.now c.put_numbers.new.out c.in-Some.ensures c.requires.room
     c.put_numbers.ensures
 
 pub move_elements-first_place-first-requires-clause-there : goal.move_elements-first_place-first-requires-clause-there

@@ -2,7 +2,7 @@ use Rattle.std.proofs.Common.{◌≡◌, ◌*◌, take}
 use Rattle.std.specs.List.{flat_map}
 use Rattle.evp_base.specs.Numbers.{number, digits}
 use Rattle.evp_wide.specs.Groups.{groups}
-use Rattle.evp_wide.proofs.widen.rewrite.Given as goal
+use Rattle.evp_wide.proofs.numbers.rewrite_each.Given as goal
 
 abbrev pub invariant-loop-element : goal.invariant-loop-element
 invariant-loop-element l =

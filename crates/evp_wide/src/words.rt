@@ -1,0 +1,133 @@
+//! Numbers of 1, 2, 4 and 8 bytes as words.
+ghost use Rattle.std.specs.Prelude.{◌≡◌, ◌<◌, ◌+◌, ◌*◌, ◌%◌, ◌^◌, IsTrue, length, pos};
+ghost use Rattle.evp_base.specs.Numbers.{number, magnitude, digits, residue, twos_complement};
+ghost use Rattle.evp_base.specs.Numbers.{is_width, is_word_length};
+
+use byteorder::{BigEndian, ByteOrder, LittleEndian};
+use evp_base::{Kind, Order};
+
+/// The unsigned number of the bytes, of which there are 1, 2, 4 or 8. Takes no memory.
+#[inline(always)]
+pub fn get_word(bytes: &[u8], order: Order) -> u64
+    requires { IsTrue (is_width (length bytes.now)) }
+    ensures value { result ≡ magnitude order bytes.now }
+    ensures below { result < 2 ^ (8 * length bytes.now) }
+{
+    if let [byte] = bytes {
+        return u64::from(*byte);
+    }
+    match order {
+        Order::Little => read_word::<LittleEndian>(bytes),
+        Order::Big => read_word::<BigEndian>(bytes),
+    }
+}
+
+// The unsigned number of 2, 4 or 8 bytes.
+#[inline(always)]
+fn read_word<B: ByteOrder>(bytes: &[u8]) -> u64
+    requires { IsTrue (is_word_length (length bytes.now)) }
+    ensures { result ≡ B.number_of (length bytes.now) bytes.now }
+{
+    match bytes.len() {
+        2 => u64::from(B::read_u16(bytes)),
+        4 => u64::from(B::read_u32(bytes)),
+        _ => B::read_u64(bytes),
+    }
+}
+
+/// Writes the lowest 1, 2, 4 or 8 bytes of a word, as many as there is room for. Takes no memory.
+#[inline(always)]
+pub fn put_word(out: &mut [u8], order: Order, word: u64)
+    requires { IsTrue (is_width (length out.old)) }
+    ensures { out.new ≡ digits order (length out.old) (pos word) }
+{
+    if out.len() == 1 {
+        out[0] = (word % 256) as u8;
+        return;
+    }
+    match order {
+        Order::Little => write_word::<LittleEndian>(out, word),
+        Order::Big => write_word::<BigEndian>(out, word),
+    }
+}
+
+// Writes the lowest 2, 4 or 8 bytes of a word.
+#[inline(always)]
+fn write_word<B: ByteOrder>(out: &mut [u8], word: u64)
+    requires { IsTrue (is_word_length (length out.old)) }
+    ensures { out.new ≡ B.bytes_of (length out.old) (word % 2 ^ (8 * length out.old)) }
+{
+    match out.len() {
+        2 => B::write_u16(out, (word % 65_536) as u16),
+        4 => B::write_u32(out, (word % 4_294_967_296) as u32),
+        _ => B::write_u64(out, word),
+    }
+}
+
+// Half of 2^(8 size).
+#[inline(always)]
+fn half_of(size: usize) -> u64
+    requires { IsTrue (is_width size) }
+    ensures { 2 * result ≡ 2 ^ (8 * size) }
+{
+    match size {
+        1 => 0x80,
+        2 => 0x8000,
+        4 => 0x8000_0000,
+        _ => 0x8000_0000_0000_0000,
+    }
+}
+
+// The bits of a word above so many bytes.
+#[inline(always)]
+fn bits_above(size: usize) -> u64
+    requires { IsTrue (is_width size) }
+    ensures { result + 2 ^ (8 * size) ≡ 2 ^ 64 }
+{
+    match size {
+        1 => 0xffff_ffff_ffff_ff00,
+        2 => 0xffff_ffff_ffff_0000,
+        4 => 0xffff_ffff_0000_0000,
+        _ => 0,
+    }
+}
+
+// A number of so many bytes in two's complement, modulo 2^64.
+#[inline(always)]
+fn with_sign(word: u64, size: usize) -> u64
+    requires width { IsTrue (is_width size) }
+    requires below { word < 2 ^ (8 * size) }
+    ensures { result ≡ residue (twos_complement size word) (2 ^ 64) }
+{
+    if word < half_of(size) {
+        word
+    } else {
+        word + bits_above(size)
+    }
+}
+
+// The number that some bytes are for a kind, modulo 2^64.
+#[inline(always)]
+fn get_number_word(bytes: &[u8], order: Order, kind: Kind) -> u64
+    requires { IsTrue (is_width (length bytes.now)) }
+    ensures { result ≡ residue (number order kind bytes.now) (2 ^ 64) }
+{
+    let word = get_word(bytes, order);
+    match kind {
+        Kind::Int | Kind::Enumeration => with_sign(word, bytes.len()),
+        Kind::Unsigned | Kind::Char => word,
+        Kind::Boolean => u64::from(word != 0),
+    }
+}
+
+/// Writes the number that some bytes are for a kind, in as many bytes as there is room for. There
+/// are 1, 2, 4 or 8 bytes on each side. Takes no memory.
+#[inline(always)]
+pub fn rewrite_number(out: &mut [u8], out_order: Order, from: &[u8], from_order: Order, kind: Kind)
+    requires out { IsTrue (is_width (length out.old)) }
+    requires from { IsTrue (is_width (length from.now)) }
+    ensures { out.new ≡ digits out_order (length out.old) (number from_order kind from.now) }
+{
+    let word = get_number_word(from, from_order, kind);
+    put_word(out, out_order, word);
+}

@@ -12,3 +12,4 @@ mod Records
 mod Quieted
 mod Zeros
 mod Filled
+mod Signless

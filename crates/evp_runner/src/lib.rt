@@ -4,6 +4,7 @@
 mod arrays;
 mod blocks;
 mod convert_fault;
+mod counts;
 mod digits;
 mod filling;
 mod lists;

@@ -6,14 +6,16 @@ ghost use Rattle.evp_base.specs.Numbers.{number, is_size_of, InRange};
 ghost use Rattle.evp_format.specs.Bytes.{bytes_at};
 ghost use Rattle.evp_format.specs.Viewing.{pointer_at, until_zero};
 ghost use Rattle.evp_format.specs.Zero.{as_count};
+ghost use Rattle.evp_plan.specs.declared.step.Origin.TheVariants.{Standing};
 ghost use Rattle.evp_plan.specs.Ready.{IsOriginThere, IsTextBy, IsStartThere};
 ghost use Rattle.evp_plan.specs.Standing.{origin_number, ended, text_by, run_count, run_start};
 ghost use Rattle.evp_runner.specs.Pieces.{block_of};
 ghost use Rattle.evp_runner.specs.StepIn.{image_in};
 
+use crate::counts::count_in;
 use crate::sender::Sender;
 use evp_base::{Kind, get_number};
-use evp_plan::{Origin, Run};
+use evp_plan::{Origin, Run, Source};
 use evp_wide::get_word;
 use memchr::memchr;
 
@@ -92,8 +94,26 @@ pub(crate) fn count_from(sender: &Sender, at: usize, origin: &Origin) -> u128
     requires inside { at ≤ length sender.now.bytes.now }
     ensures { result ≡ as_count (origin_number (image_in sender.now) at origin.now) }
 {
-    let number = number_from(sender, at, origin);
-    if number < 0 { 0 } else { number as u128 }
+    match origin {
+        Origin::Standing(source) => u128::from(count_there(sender, at, source)),
+        Origin::Stated(number) => if *number < 0 { 0 } else { *number as u128 },
+    }
+}
+
+// The same for one that stands there.
+fn count_there(sender: &Sender, at: usize, source: &Source) -> u64
+    requires there { IsOriginThere (image_in sender.now) at (Standing source.now) }
+    requires inside { at ≤ length sender.now.bytes.now }
+    ensures { result
+        ≡ as_count (origin_number (image_in sender.now) at (Standing source.now)) }
+{
+    let s = at + source.offset as usize;
+    let bytes = sender.bytes;
+    count_in(
+        &bytes[s..s + source.size as usize],
+        sender.order,
+        source.kind,
+    )
 }
 
 // How many elements the sender's array has.

@@ -16,7 +16,7 @@ pub use numbers::rewrite;
 pub use orders::reorder;
 pub use swap::{swap2, swap4, swap8};
 pub use widen::{widen_signed, widen_unsigned};
-pub use words::{get_word, put_word, rewrite_number};
+pub use words::{get_word, half_of, put_word, rewrite_number};
 
 #[cfg(test)]
 mod tests;

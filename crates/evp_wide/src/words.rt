@@ -64,9 +64,10 @@ fn write_word<B: ByteOrder>(out: &mut [u8], word: u64)
     }
 }
 
-// Half of 2^(8 size).
+/// Half of 2^(8 size): the least word of `size` bytes whose top bit is set. The size is 1, 2, 4 or
+/// 8. Takes no memory.
 #[inline(always)]
-fn half_of(size: usize) -> u64
+pub fn half_of(size: usize) -> u64
     requires { IsTrue (is_width size) }
     ensures { 2 * result ≡ 2 ^ (8 * size) }
 {

@@ -108,9 +108,27 @@ impl CachePass {
             ⊎ (builds.new ≡ builds.old) }
         ensures builds { (builds.new ≡ builds.old) ⊎ (builds.new ≡ raised builds.old) }
     {
-        if let Some(place) = self.place(pair.from, pair.to) {
-            return Ok(place);
+        match self.place(pair.from, pair.to) {
+            Some(place) => Ok(place),
+            None => self.meet_first(alloc, cell, pair, builds),
         }
+    }
+
+    // Meets a pair that wasn't met before, and answers its place. Apart, since it is rare.
+    #[inline(never)]
+    fn meet_first(
+        &mut self,
+        alloc: Global,
+        cell: &OnceBox<Kept>,
+        pair: &Pair<'_>,
+        builds: &mut Builds,
+    ) -> Result<usize, Memory>
+        requires new { found_for self.old pair.now.from pair.now.to ≡ None }
+        ensures met { IfOk result (λ place. IsMeeting self.old self.new pair.now.from pair.now.to
+            (cell_name cell.now) pair.now.sender.now pair.now.receiver.now place) }
+        ensures err { OnErr result (self.new ≡ self.old) }
+        ensures builds { (builds.new ≡ builds.old) ⊎ (builds.new ≡ raised builds.old) }
+    {
         let met = meet(alloc, cell, pair, builds)?;
         Ok(self.learn(alloc, met)?)
     }

@@ -1,7 +1,8 @@
 -- Entries are lined up one after another, and outlets counted.
 use Rattle.std.proofs.Common.{◌≡◌, ℕ, zero, suc, ◌+◌, ◌<◌, ◌^◌, Bool, true, false}
 use Rattle.std.proofs.Common.{List, [], ◌∷◌, ◌++◌, length, take, drop, get_or, set, append_assoc}
-use Rattle.std.proofs.Common.{refl, sym, ap, subst, ◌∙◌, add-one, arith, inl, inr}
+use Rattle.std.proofs.Common.{refl, sym, ap, subst, ◌∙◌, ◌==◌, ◌≤◌, ◌⊎◌, true≢false, add-one, arith, inl, inr}
+use Rattle.std.proofs.lemmas.Bool.Decides.{nat_tests}
 use Rattle.std.proofs.lemmas.List.{append-nil, length-map}
 use Rattle.std.specs.Prelude.{if◌then◌else◌}
 use Rattle.std.specs.List.{AllByRecursion}
@@ -9,6 +10,7 @@ use Rattle.evp_stone.specs.declared.entry.Entry.{Entry}
 use Rattle.evp_stone.specs.declared.outlet.Outlet.{Outlet}
 use Rattle.evp_stone.specs.Lining.{IsAt, AreLined, lengthened, one_more}
 use Rattle.evp_stone.specs.State as state
+use Rattle.evp_stone.specs.Turning.{everywhere}
 use Rattle.evp_stone.specs.Working.{outlet_of, outlets_of}
 
 -- the outlets from a place on
@@ -40,18 +42,37 @@ module _ (IsOne : Entry → Type 0) (goes : ℕ → Bool) where
         (was.so_far (entry ∷ rest) (rw (outlets_from xs p d within) (inl (here, (entry, rest, refl, at, lined)))));
   }
 
-  pub lined_not : (xs : List Outlet) (p : ℕ) (d : Outlet) (entries : List Entry) → p < length xs → goes p ≡ false
-      → LinedSoFar (outlets_of xs) p entries → LinedSoFar (outlets_of xs) (p + 1) entries
-  lined_not xs p d entries within here was = record {
-    so_far = λ rest lined. was.so_far rest (rw (outlets_from xs p d within) (inr (here, lined)));
-  }
-
   pub lined_all : (xs : List Outlet) (p : ℕ) (entries : List Entry) → p ≡ length xs → LinedSoFar (outlets_of xs) p entries
       → AreLined IsOne goes 0 (outlets_of xs) entries
   lined_all xs p entries is was =
       let none : drop p (outlets_of xs) ≡ [] = drop_all (outlets_of xs) p (is ∙ sym (length-map xs outlet_of)) in
       subst (AreLined IsOne goes 0 (outlets_of xs)) (append-nil entries)
       (was.so_far [] (subst (λ (l : List state.Outlet). AreLined IsOne goes p l []) (sym none) refl))
+
+-- one goes everywhere but to the last place, and one to that
+module _ (IsOne : Entry → Type 0) where
+  pub lined_behind : (outlets : List state.Outlet) (position : ℕ) (outlet : state.Outlet) (entries : List Entry) (entry : Entry)
+      → AreLined IsOne everywhere position outlets entries → IsAt IsOne outlet entry
+      → AreLined IsOne everywhere position (outlets ++ outlet ∷ []) (entries ++ entry ∷ [])
+  lined_behind [] position outlet entries entry lined at = rw lined (inl (refl, (entry, [], refl, at, refl)))
+  lined_behind (o ∷ outlets) position outlet entries entry (inl (here, (first, others, is, was, lined))) at =
+      rw is (inl (here, (first, others ++ entry ∷ [], refl, was, lined_behind outlets (position + 1) outlet others entry lined at)))
+  lined_behind (o ∷ outlets) position outlet entries entry (inr (not, lined)) at = absurd (true≢false not)
+
+  -- none goes to places that are behind
+  pub lined_none : (xs : List Outlet) (k position : ℕ) → (length xs + position ≤ k) ⊎ (k < position)
+      → AreLined IsOne (λ p. k == p) position (outlets_of xs) []
+  lined_none [] k position out = refl
+  lined_none (x ∷ xs) k position out = inr (grind (arith, nat_tests), lined_none xs k (position + 1) (grind arith))
+
+  pub lined_at : (xs : List Outlet) (k position place : ℕ) (d : Outlet) (entry : Entry) → k ≡ position + place → place < length xs
+      → IsAt IsOne (outlet_of (get_or xs place d)) entry
+      → AreLined IsOne (λ p. k == p) position (outlets_of xs) (entry ∷ [])
+  lined_at [] k position place d entry is within at = absurd (omega arith)
+  lined_at (x ∷ xs) k position zero d entry is within at =
+      inl (grind (arith, nat_tests), (entry, [], refl, at, lined_none xs k (position + 1) (inr (omega arith))))
+  lined_at (x ∷ xs) k position (suc place) d entry is within at =
+      inr (grind (arith, nat_tests), lined_at xs k (position + 1) place d entry (omega arith) (omega arith) at)
 
 take_next : (xs : List Outlet) (p : ℕ) (d : Outlet) → p < length xs
     → take (suc p) (outlets_of xs) ≡ take p (outlets_of xs) ++ outlet_of (get_or xs p d) ∷ []
@@ -88,21 +109,6 @@ module _ (goes : ℕ → Bool) where
       → AllByRecursion IsShort (drop (p + 1) (outlets_of xs))
   rest_of old xs p d within was = (rw (outlets_from xs p d within) at was.short).1
 
-  pub longer_not : (old xs : List Outlet) (p : ℕ) (d : Outlet) → p < length xs → goes p ≡ false → LongerSoFar old xs p
-      → LongerSoFar old xs (p + 1)
-  longer_not old xs p d within here was =
-      let o = outlet_of (get_or xs p d) in
-      let others = drop (p + 1) (outlets_of xs) in
-      let from = outlets_from xs p d within in
-      let all : take p (outlets_of xs) ++ (if goes p then one_more o else o) ∷ lengthened goes (p + 1) others
-      ≡ lengthened goes 0 (outlets_of old) =
-      ap (λ (l : List state.Outlet). take p (outlets_of xs) ++ lengthened goes p l) (sym from) ∙ was.whole in
-      record {
-        whole = rw (add-one p) (rw (take_next xs p d within) (append_assoc (take p (outlets_of xs)) (o ∷ []) _))
-            ∙ ap (λ (b : Bool). take p (outlets_of xs) ++ (if b then one_more o else o) ∷ lengthened goes (p + 1) others) (sym here) ∙ all;
-        short = rest_of old xs p d within was;
-      }
-
   pub longer_one : (old xs : List Outlet) (p : ℕ) (d y : Outlet) → p < length xs → goes p ≡ true
       → outlet_of y ≡ one_more (outlet_of (get_or xs p d)) → LongerSoFar old xs p
       → LongerSoFar old (set xs p y) (p + 1)
@@ -124,3 +130,29 @@ module _ (goes : ℕ → Bool) where
             ∙ all;
         short = subst (AllByRecursion IsShort) (sym rest) (rest_of old xs p d within was);
       }
+
+-- nothing changes at places that are not meant
+pub longer_none : (xs : List Outlet) (k position : ℕ) → (length xs + position ≤ k) ⊎ (k < position)
+    → outlets_of xs ≡ lengthened (λ p. k == p) position (outlets_of xs)
+longer_none [] k position out = refl
+longer_none (x ∷ xs) k position out =
+    let not : (k == position) ≡ false = grind (arith, nat_tests) in
+    rw not (ap (λ (l : List state.Outlet). outlet_of x ∷ l) (longer_none xs k (position + 1) (grind arith)))
+
+pub longer_at : (xs : List Outlet) (k position place : ℕ) (d y : Outlet) → k ≡ position + place → place < length xs
+    → outlet_of y ≡ one_more (outlet_of (get_or xs place d))
+    → outlets_of (set xs place y) ≡ lengthened (λ p. k == p) position (outlets_of xs)
+longer_at [] k position place d y is within more = absurd (omega arith)
+longer_at (x ∷ xs) k position zero d y is within more =
+    let here : (k == position) ≡ true = grind (arith, nat_tests) in
+    rw here (rw more (ap (λ (l : List state.Outlet). one_more (outlet_of x) ∷ l) (longer_none xs k (position + 1) (inr (omega arith)))))
+longer_at (x ∷ xs) k position (suc place) d y is within more =
+    let not : (k == position) ≡ false = grind (arith, nat_tests) in
+    rw not (ap (λ (l : List state.Outlet). outlet_of x ∷ l) (longer_at xs k (position + 1) place d y (omega arith) (omega arith) more))
+
+-- a counter that is among those that have room has room
+pub short_at : (xs : List Outlet) (place : ℕ) (d : Outlet) → place < length xs → AllByRecursion IsShort (outlets_of xs)
+    → (get_or xs place d).lined + 1 < 2 ^ 32
+short_at [] place d within short = absurd (omega arith)
+short_at (x ∷ xs) zero d within short = short.0
+short_at (x ∷ xs) (suc place) d within short = short_at xs place d (omega arith) short.1

@@ -16,7 +16,7 @@ abbrev pub outlets_of : List Outlet → List state.Outlet
 outlets_of outlets = map outlet_of outlets
 
 abbrev pub sending_of : Sending → lining.Sending
-sending_of (Item index owned) = lining.a_record index (arc_value owned.now)
+sending_of (Item index owned) = lining.a_record index (arc_value owned)
 sending_of (End round) = lining.an_end round
 
 -- whether something that is sent so goes to the target at a position

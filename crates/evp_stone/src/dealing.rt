@@ -96,6 +96,7 @@ fn deal_new(
 }
 
 // Ends the round of the mark in hand.
+#[inline(always)]
 fn deal_mark(
     alloc: Global,
     work: &mut RouteWork,

@@ -62,7 +62,7 @@ impl RouteWork {
         ensures none { OnErr result (waiting.new.items ≡ []) }
     {
         match acted {
-            Acted::Sent(to, owned) => self.send(waiting, index, to, &owned),
+            Acted::Sent(to, owned) => self.send(waiting, index, to, owned),
             Acted::Dropped => {
                 self.running.dropped += 1;
                 Ok(())
@@ -87,7 +87,7 @@ impl RouteWork {
         ensures none { OnErr result (waiting.new.items ≡ []) }
     {
         self.ended.reserve(1)?;
-        line_up(&self.outlets, waiting, To::All, &Sending::End(round))?;
+        line_up(&self.outlets, waiting, To::All, Sending::End(round))?;
         lengthen(&mut self.outlets, To::All);
         let running = mem::replace(&mut self.running, RoundAccount::new(alloc));
         self.ended
@@ -101,16 +101,16 @@ impl RouteWork {
         waiting: &mut VecDeque<Entry>,
         index: u32,
         to: To,
-        owned: &Arc<Owned, Global>,
+        owned: Arc<Owned, Global>,
     ) -> Result<(), AllocError>
         requires none { waiting.old.items ≡ [] }
         requires room { HasRoom (work_of self.old) }
-        ensures settled { OnOk result (Settled index (Sent to owned.now) (work_of self.old)
+        ensures settled { OnOk result (Settled index (Sent to owned) (work_of self.old)
             (work_of self.new) waiting.new.items) }
         ensures err { OnErr result (work_of self.new ≡ work_of self.old) }
         ensures none { OnErr result (waiting.new.items ≡ []) }
     {
-        line_up(&self.outlets, waiting, to, &Sending::Item(index, owned))?;
+        line_up(&self.outlets, waiting, to, Sending::Item(index, owned))?;
         lengthen(&mut self.outlets, to);
         self.running.passed += 1;
         Ok(())

@@ -1,21 +1,19 @@
-use Rattle.std.proofs.Common.{sym, ◌∙◌, arith}
-use Rattle.evp_stone.specs.Lining.{IsOf}
-use Rattle.evp_stone.specs.Working.{sending_of, goes_by}
-use Rattle.evp_stone.proofs.LineUp.{lined_one, lined_not, lined_all}
-use Rattle.evp_stone.proofs.outlet.push_all.Goals.{then-goes+in_ok-entry+in_ok-reserve, else-goes}
+use Rattle.std.proofs.Common.{◌≡◌, List, [], ◌∷◌, ◌++◌, sym, subst, ap, ◌∙◌}
+use Rattle.std.proofs.lemmas.List.{map-append}
+use Rattle.std.proofs.lemmas.Result.{on_ok_weaker}
+use Rattle.evp_stone.specs.declared.entry.Entry.{Entry}
+use Rattle.evp_stone.specs.Lining.{IsOf, AreLined}
+use Rattle.evp_stone.specs.Turning.{everywhere}
+use Rattle.evp_stone.specs.Working.{outlet_of, outlets_of, sending_of}
+use Rattle.evp_stone.proofs.LineUp.{lined_behind}
 use Rattle.evp_stone.proofs.outlet.push_all.Goals as goal
 
-pub loop-position-preserved : goal.loop-position-preserved
-loop-position-preserved c = elim c.if-goes.branch [
-  | then-goes+in_ok-entry+in_ok-reserve w ↦ rw (w.waiting-is, w.push_back_reserved.ensures.items, w.reserve.ensures.items)
-      (lined_one (IsOf (sending_of c.args.sending.now)) (goes_by c.args.to) c.args.outlets.now
-      c.loop-position.position (record { route = 0; lined = 0 }) c.loop-position.waiting.items w.in_ok-entry.entry (omega arith)
-      (sym c.goes.ensures ∙ w.if-goes.true) w.in_ok-entry.ensures c.loop-position.invariant)
-  | else-goes w ↦ rw w.waiting-is (lined_not (IsOf (sending_of c.args.sending.now)) (goes_by c.args.to) c.args.outlets.now
-      c.loop-position.position (record { route = 0; lined = 0 }) c.loop-position.waiting.items (omega arith)
-      (sym c.goes.ensures ∙ w.if-goes.false) c.loop-position.invariant)
-]
-
 pub returns : goal.returns
-returns c = lined_all (IsOf (sending_of c.args.sending.now)) (goes_by c.args.to) c.args.outlets.now c.loop-position.position
-    c.loop-position.waiting.items (omega arith) c.loop-position.invariant
+returns c =
+    let IsOne = IsOf (sending_of c.args.sending) in
+    let lined = lined_behind IsOne (outlets_of c.in-Some.others.now) 0 (outlet_of c.in-Some.last.now) c.push_copies.new.waiting.items
+    c.entry.result c.in_ok-push_copies.ensures c.entry.ensures in
+    let apart : outlets_of c.args.outlets.now ≡ outlets_of c.in-Some.others.now ++ outlet_of c.in-Some.last.now ∷ [] =
+    ap outlets_of c.in-Some.ensures.cases.0 ∙ map-append outlet_of c.in-Some.others.now (c.in-Some.last.now ∷ []) in
+    on_ok_weaker c.push.result (λ pushed.
+    subst (λ (entries : List Entry). AreLined IsOne everywhere 0 (outlets_of c.args.outlets.now) entries) (sym pushed) (rw apart lined)) c.push.ensures

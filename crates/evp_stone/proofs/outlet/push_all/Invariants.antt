@@ -1,8 +1,0 @@
-use Rattle.evp_stone.specs.Lining.{IsOf}
-use Rattle.evp_stone.specs.Working.{outlets_of, sending_of, goes_by}
-use Rattle.evp_stone.proofs.LineUp.{LinedSoFar}
-use Rattle.evp_stone.proofs.outlet.push_all.Given as goal
-
-abbrev pub invariant-loop-position : goal.invariant-loop-position
-invariant-loop-position l =
-    LinedSoFar (IsOf (sending_of l.sending)) (goes_by l.to) (outlets_of l.outlets) l.position l.waiting.items

@@ -1,6 +1,5 @@
-use Rattle.std.proofs.Common.{List, [], ◌∷◌, arith, inl, rules, ap, subst, sym, ◌∙◌}
+use Rattle.std.proofs.Common.{arith, inl}
 use Rattle.std.proofs.lemmas.Result.{on_ok_weaker}
-use Rattle.evp_stone.specs.declared.entry.Entry.{Entry}
 use Rattle.evp_stone.specs.Lining.{IsOf}
 use Rattle.evp_stone.specs.Working.{sending_of}
 use Rattle.evp_stone.proofs.LineUp.{lined_none, lined_at}

@@ -1,5 +1,5 @@
 -- The report of a job: for each round its number, and for each route what its last stone did in it.
-use Rattle.std.specs.Prelude.{ℕ, zero, suc, ◌+◌, List, [], ◌++◌, codes, length, map}
+use Rattle.std.specs.Prelude.{◌≡◌, ℕ, zero, suc, ◌+◌, List, [], ◌++◌, codes, length, map}
 use Rattle.std.specs.Prelude.{slice_get, Option, Some, None}
 use Rattle.std.specs.Fmt.{decimal}
 use Rattle.std.specs.List.{flat_map}
@@ -93,10 +93,22 @@ lines_in (Some tally) name = route_lines name tally
 abbrev pub told_in : ℕ → Told → List ℕ
 told_in round route = lines_in (slice_get route.1 round) route.0
 
+-- a round's line
+abbrev pub round_line : ℕ → List ℕ
+round_line round = counted (codes "round ") round ++ line_end
+
 -- a round's line, and the lines of each route in it
 abbrev pub round_lines : ℕ → List Told → List ℕ
-round_lines round routes =
-    counted (codes "round ") round ++ line_end ++ flat_map (told_in round) routes
+round_lines round routes = round_line round ++ flat_map (told_in round) routes
+
+-- the lines of some routes of a job in a round
+abbrev pub routes_lines : JobShape → ℕ → List Route → List ℕ
+routes_lines job round routes = flat_map (λ route. told_in round (told_of job route)) routes
+
+-- these are the routes from this number on, or some of them
+abbrev pub StandFrom : List Route → ℕ → List Route → Type 0
+StandFrom all from routes = (k : ℕ) (route : Route) → slice_get routes k ≡ Some route
+    → slice_get all (from + k) ≡ Some route
 
 -- so many rounds from this one on
 abbrev pub rounds_text : ℕ → ℕ → List Told → List ℕ

@@ -1,10 +1,10 @@
 //! The report of a job: each round, and what the last stone of each route did in it.
-ghost use Rattle.std.specs.Prelude.{◌≡◌, Some, map, slice_get};
-ghost use Rattle.std.specs.List.{flat_map};
+ghost use Rattle.std.specs.Prelude.{◌≡◌, ◌+◌, ◌<◌, ◌^◌, Some, length, map, slice_get};
 ghost use Rattle.evp_depot.specs.Put.{Puts};
 ghost use Rattle.evp_report.specs.Passing.{Passes};
-ghost use Rattle.evp_report.specs.Report.{report, round_lines, route_name};
-ghost use Rattle.evp_report.specs.Report.{source_name, stones_text, told_in, told_of};
+ghost use Rattle.evp_report.specs.Report.{report, round_line, round_lines, route_name};
+ghost use Rattle.evp_report.specs.Report.{routes_lines, source_name, stones_text};
+ghost use Rattle.evp_report.specs.Report.{told_in, told_of, StandFrom};
 ghost use Rattle.evp_stone.specs.WholeAccounts.{AreAccounts};
 
 use crate::Pieces;
@@ -44,7 +44,7 @@ fn put_rounds<K: Sink>(
     Ok(())
 }
 
-// A round's number, and each route in it.
+// A round's line, and each route in it.
 fn put_round<K: Sink>(
     pieces: &mut Pieces,
     sink: &mut K,
@@ -56,25 +56,77 @@ fn put_round<K: Sink>(
     ensures { Passes K.faults K.put sink.old sink.new pieces.old pieces.new
         (round_lines round (map (told_of job.now) job.now.routes)) result }
 {
-    put_counted(pieces, sink, b"round ", round)?;
-    pieces.put(sink, b"\n")?;
-    put_routes(pieces, sink, job, accounts, round)
+    put_round_line(pieces, sink, round)?;
+    put_routes(
+        pieces,
+        sink,
+        job,
+        accounts,
+        round,
+        0,
+        job.parts().routes.as_slice(),
+    )
 }
 
-// Each route in a round.
+/// Writes the line that a round's lines begin with. `Failed` comes where a write failed; a front of
+/// the line may have been put then. It takes no memory.
+pub fn write_round_line<K: Sink>(round: usize, sink: &mut K) -> Result<(), PutFault>
+    ensures { Puts K.faults K.put sink.old sink.new (round_line round) result }
+{
+    let mut pieces = Pieces::new();
+    put_round_line(&mut pieces, sink, round)?;
+    pieces.flush(sink)
+}
+
+// A round's line.
+fn put_round_line<K: Sink>(pieces: &mut Pieces, sink: &mut K, round: usize) -> Result<(), PutFault>
+    ensures { Passes K.faults K.put sink.old sink.new pieces.old pieces.new
+        (round_line round) result }
+{
+    put_counted(pieces, sink, b"round ", round)?;
+    pieces.put(sink, b"\n")
+}
+
+/// Writes the lines that some routes have in a round, by the accounts of the job's stones in their
+/// order; the routes are those of the job from number `from` on. A round's lines are its line and
+/// then those of all routes. `Failed` comes where a write failed; a front of the lines may have
+/// been put then. It takes no memory.
+pub fn write_routes<K: Sink>(
+    job: &Job,
+    accounts: &[Account],
+    round: usize,
+    from: usize,
+    routes: &[Route],
+    sink: &mut K,
+) -> Result<(), PutFault>
+    requires accounts { AreAccounts job.now accounts.now }
+    requires stand { StandFrom job.now.routes from routes.now }
+    requires few { from + length routes.now < 2 ^ 64 }
+    ensures { Puts K.faults K.put sink.old sink.new (routes_lines job.now round routes.now) result }
+{
+    let mut pieces = Pieces::new();
+    put_routes(&mut pieces, sink, job, accounts, round, from, routes)?;
+    pieces.flush(sink)
+}
+
+// Each of these routes, which are those of the job from number `from` on, in a round.
 fn put_routes<K: Sink>(
     pieces: &mut Pieces,
     sink: &mut K,
     job: &Job,
     accounts: &[Account],
     round: usize,
+    from: usize,
+    routes: &[Route],
 ) -> Result<(), PutFault>
-    requires { AreAccounts job.now accounts.now }
+    requires accounts { AreAccounts job.now accounts.now }
+    requires stand { StandFrom job.now.routes from routes.now }
+    requires few { from + length routes.now < 2 ^ 64 }
     ensures { Passes K.faults K.put sink.old sink.new pieces.old pieces.new
-        (flat_map (λ route. told_in round (told_of job.now route)) job.now.routes) result }
+        (routes_lines job.now round routes.now) result }
 {
-    for (number, route) in job.parts().routes.as_slice().iter().enumerate() {
-        put_route(pieces, sink, job, accounts, number, route, round)?;
+    for (number, route) in routes.iter().enumerate() {
+        put_route(pieces, sink, job, accounts, from + number, route, round)?;
     }
     Ok(())
 }

@@ -6,4 +6,4 @@ use Rattle.evp_report.proofs.report.put_routes.Given as goal
 abbrev pub invariant-loop-number : goal.invariant-loop-number
 invariant-loop-number g l =
     Through g.K.Sink.faults g.K.Sink.put l.fn.sink l.sink l.fn.pieces l.pieces (λ r. told_in l.fn.round (told_of l.fn.job r))
-    l.fn.job.routes l.number
+    l.fn.routes l.number

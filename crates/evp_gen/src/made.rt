@@ -1,6 +1,6 @@
 //! All that is made of a number.
 
-ghost use Rattle.std.specs.Prelude.{◌≡◌, ◌≤◌, Some, map, IfOk, IsUtf8};
+ghost use Rattle.std.specs.Prelude.{◌≡◌, ◌<◌, ◌≤◌, [], Some, get_or, map, IfOk, IsUtf8};
 ghost use Rattle.serde_json.specs.Read.{read};
 ghost use Rattle.serde_json.specs.Written.{compact_text};
 ghost use Rattle.evp_gen.specs.Document.{job_value};
@@ -65,9 +65,20 @@ pub fn make(alloc: Global, n: u32) -> Result<Made, Memory>
     ensures job { IfOk result (λ made. read made.job ≡ Some (job_value n)) }
     ensures files { IfOk result (λ made. made.files ≡ all_sent n) }
 {
-    let job = document(alloc, n)?;
+    let job = make_job(alloc, n)?;
     let files = all_files(alloc, n)?;
     Ok(Made { job, files })
+}
+
+/// The job document of `make` alone.
+pub fn make_job(alloc: Global, n: u32) -> Result<Vec<u8>, Memory>
+    requires some { 1 ≤ n }
+    requires few { n ≤ 20000 }
+    ensures text { IfOk result (λ bytes. IsUtf8 bytes.items) }
+    ensures compact { IfOk result (λ bytes. bytes.items ≡ compact_text (job_value n)) }
+    ensures job { IfOk result (λ bytes. read bytes.items ≡ Some (job_value n)) }
+{
+    document(alloc, n)
 }
 
 // The files of the four senders.
@@ -75,10 +86,24 @@ fn all_files(alloc: Global, n: u32) -> Result<Vec<Vec<u8>>, Memory>
     requires { n ≤ 20000 }
     ensures { IfOk result (λ files. map (λ file. file.items) files.items ≡ all_sent n) }
 {
-    let a = sent_bytes(alloc, Profile::Le64, 0, n)?;
-    let b = sent_bytes(alloc, Profile::Le32, 1, n)?;
-    let c = sent_bytes(alloc, Profile::Be64, 2, n)?;
-    let d = sent_bytes(alloc, Profile::Be32, 3, n)?;
+    let a = make_file(alloc, 0, n)?;
+    let b = make_file(alloc, 1, n)?;
+    let c = make_file(alloc, 2, n)?;
+    let d = make_file(alloc, 3, n)?;
     let files = vec![in alloc; a, b, c, d]?;
     Ok(files)
+}
+
+/// One record file of `make` alone: that of the source of this number, counted from 0.
+pub fn make_file(alloc: Global, source: usize, n: u32) -> Result<Vec<u8>, Memory>
+    requires source { source < 4 }
+    requires few { n ≤ 20000 }
+    ensures { IfOk result (λ file. file.items ≡ get_or (all_sent n) source []) }
+{
+    match source {
+        0 => sent_bytes(alloc, Profile::Le64, 0, n),
+        1 => sent_bytes(alloc, Profile::Le32, 1, n),
+        2 => sent_bytes(alloc, Profile::Be64, 2, n),
+        _ => sent_bytes(alloc, Profile::Be32, 3, n),
+    }
 }

@@ -55,7 +55,7 @@ turned_seat seat actor passes is acted same are stay =
 abbrev pub Moves : PortShape → PortShape → Type 0
 Moves old new = (new.crew ≡ old.crew) × (new.job ≡ old.job) × Stay old.job old.passes new.passes
 
-moved : (old new : PortShape) → (new ≡ old) ⊎ Moves old new → Moves old new
+pub moved : (old new : PortShape) → (new ≡ old) ⊎ Moves old new → Moves old new
 moved old new (inl same) =
     subst (Moves old) (sym same) (refl, refl, record { stone = refl; given = λ route is. is })
 moved old new (inr moves) = moves

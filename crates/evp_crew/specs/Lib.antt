@@ -10,5 +10,6 @@ pub mod Rota
 pub mod Rule
 pub mod Seat
 pub mod Seated
+pub mod Visit
 pub mod Ways
 pub mod Whole

@@ -5,8 +5,8 @@ use Rattle.evp_crew.specs.Seat.{SeatShape}
 abbrev pub seat_of : Inside → SeatShape
 seat_of seat = record {
   number = seat.number;
-  actor = seat.actor.value;
-  passes = seat.passes;
+  actor = seat.equipped.value.actor;
+  passes = seat.equipped.value.passes;
   job = seat.job.value;
   cells = seat.cache.value;
   crew = seat.crew.value;

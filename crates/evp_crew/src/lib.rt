@@ -17,6 +17,7 @@ mod seat;
 #[cfg(test)]
 mod tests;
 mod three;
+mod visiting;
 mod ways;
 mod worker;
 

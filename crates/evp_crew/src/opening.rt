@@ -8,7 +8,7 @@ ghost use Rattle.evp_crew.specs.Parting.{IsOpening, AreOpening};
 use crate::crew::Crew;
 use crate::parting::shares;
 use crate::passes::{Passes, Taker};
-use crate::seat::Seat;
+use crate::seat::{Equipped, Seat};
 use crate::ways::ways;
 use evp_base::Memory;
 use evp_cache::PlanCache;
@@ -144,12 +144,11 @@ fn seat(
     ensures { IfOk result (IsOpening job.now cache.now crew.now number) }
 {
     let _kept = job.parts();
-    let made = Actor::new(alloc, job, cache, number)?;
-    let actor = Box::new(alloc, made)?;
+    let actor = Actor::new(alloc, job, cache, number)?;
+    let equipped = Box::new(alloc, Equipped { actor, passes })?;
     Ok(Seat {
         number,
-        actor,
-        passes,
+        equipped,
         job: Snapshot::of(job),
         cache: Snapshot::of(cache),
         crew: Snapshot::of(crew),

@@ -60,6 +60,14 @@ impl<'a, R> CrewPort<'a, R> {
         }
     }
 
+    // The passes, as they are now.
+    pub(crate) fn passes(&self) -> &Passes
+        ensures passes { result.now ≡ self.now.passes }
+        ensures of { AreOf self.now.crew self.now.job self.now.passes }
+    {
+        &self.passes
+    }
+
     // The passes.
     pub(crate) fn into_passes(self) -> Passes
         ensures passes { result ≡ self.entry.passes }

@@ -21,13 +21,19 @@ use std::mem;
 use std::snapshot::Snapshot;
 use std::sync::Wait;
 
+/// An actor and its passes.
+#[derive(Drop)]
+pub(crate) struct Equipped {
+    pub(crate) actor: Actor,
+    pub(crate) passes: Passes,
+}
+
 /// An actor with its passes, between its turns.
 #[derive(Drop)]
 pub struct Seat {
     pub(crate) number: u16,
     // On the heap, so that a rota moves little.
-    pub(crate) actor: Box<Actor>,
-    pub(crate) passes: Passes,
+    pub(crate) equipped: Box<Equipped>,
     // For the proofs: of which job, cache and crew it is.
     pub(crate) job: Snapshot<Job>,
     pub(crate) cache: Snapshot<PlanCache>,
@@ -86,11 +92,11 @@ impl Seat {
         ensures turned { HasTurned job.now (counts_of job.now self.old.passes)
             (counts_of job.now self.new.passes) self.old.actor self.new.actor result }
     {
-        let none = Passes::none(self.passes.alloc);
-        let passes = mem::replace(&mut self.passes, none);
-        let mut port = CrewPort::new(rt, crew, job, passes);
-        let turn = self.actor.turn(job, cache, &mut port);
-        self.passes = port.into_passes();
+        let Equipped { actor, passes } = &mut *self.equipped;
+        let none = Passes::none(passes.alloc);
+        let mut port = CrewPort::new(rt, crew, job, mem::replace(passes, none));
+        let turn = actor.turn(job, cache, &mut port);
+        *passes = port.into_passes();
         turn
     }
 
@@ -102,7 +108,8 @@ impl Seat {
             → HasActed job cells taken given self.actor → IsDone job self.actor.role
             → IsAccount job result }
     {
-        let Seat { actor, .. } = self;
-        Box::into_inner(actor).account()
+        let Seat { equipped, .. } = self;
+        let Equipped { actor, .. } = Box::into_inner(equipped);
+        actor.account()
     }
 }

@@ -1,7 +1,6 @@
 //! Workers: each takes seats out of the rota, does turns, and puts them back.
 ghost use Rattle.std.specs.Prelude.{◌≡◌};
-ghost use Rattle.evp_stone.specs.Closed.{IsClosed};
-ghost use Rattle.evp_crew.specs.Done.{IfClosed, WorksAt, GoesOnWith};
+ghost use Rattle.evp_crew.specs.Done.{WorksAt, GoesOnWith};
 ghost use Rattle.evp_crew.specs.Rota.{three};
 ghost use Rattle.evp_crew.specs.Rule.{IsOfThree};
 
@@ -9,16 +8,14 @@ use crate::crew::Crew;
 use crate::gate::Gate;
 use crate::rota::{Rota, RotaPass};
 use crate::seat::Seat;
+use crate::visiting::visit;
 use evp_cache::PlanCache;
 use evp_stone::{Job, Turn};
 use std::sync::Wait;
-use std::{hint, thread};
-
-// How many turns a worker does with a seat before it puts it back.
-const MOST_TURNS: u32 = 64;
+use std::thread;
 
 // After how many seats in a row that moved nothing a worker lets other threads run.
-const MOST_IDLE: u32 = 64;
+const MOST_IDLE: u32 = 2;
 
 /// What all workers share.
 #[derive(Clone, Copy)]
@@ -104,7 +101,7 @@ impl Worker {
         ensures next { GoesOnWith
             (three office.now.job.now office.now.cache.now office.now.crew.now) result }
     {
-        match turns(rt, office, gate, self.number, &mut seat, idle) {
+        match visit(rt, office, gate, self.number, &mut seat, idle) {
             Turn::Closed => {
                 let _number = seat.number();
                 match self.closed.push(seat) {
@@ -139,41 +136,9 @@ impl Worker {
     }
 }
 
-// Waits a little: the longer, the more seats in a row moved nothing.
+// Lets other threads run where several seats in a row moved nothing.
 fn rest(idle: u32) {
     if idle > MOST_IDLE {
         thread::yield_now();
-        return;
     }
-    for _ in 0..idle {
-        hint::spin_loop();
-    }
-}
-
-// Does turns with a seat while they move, with the gate before each. It is one more in a row that
-// moved nothing, or the row is at its end.
-fn turns<R: Wait, G: Gate>(
-    rt: &R,
-    office: &Office<'_>,
-    gate: &G,
-    worker: u32,
-    seat: &mut Seat,
-    idle: &mut u32,
-) -> Turn
-    requires { IsOfThree
-        (three office.now.job.now office.now.cache.now office.now.crew.now) seat.old }
-    ensures of { IsOfThree
-        (three office.now.job.now office.now.cache.now office.now.crew.now) seat.new }
-    ensures closed { IfClosed result (IsClosed office.now.job.now seat.new.actor.role) }
-{
-    *idle = idle.saturating_add(1);
-    for _ in 0..MOST_TURNS {
-        gate.before(worker, u32::from(seat.number()));
-        let turn = office.crew.step(rt, office.job, office.cache, seat);
-        if turn != Turn::Moved {
-            return turn;
-        }
-        *idle = 0;
-    }
-    Turn::Moved
 }

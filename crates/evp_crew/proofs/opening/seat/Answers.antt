@@ -3,7 +3,7 @@ use Rattle.evp_crew.proofs.opening.seat.Goals as goal
 
 pub invariant_of-result : goal.invariant_of-result
 invariant_of-result c =
-    let actor = c.in_ok-made.ensures in
-    rw (c.in_ok-actor.ensures.ok, c.of.ensures, c.of-2.ensures, c.of-3.ensures)
+    let actor = c.in_ok-actor.ensures in
+    rw (c.in_ok-equipped.ensures.ok, c.of.ensures, c.of-2.ensures, c.of-3.ensures)
     (seat_opens c.args.job.now c.parts-kept.ensures.kept c.args.number c.args.crew.now c.args.passes c.requires.ready
-    c.args.cache.now c.in_ok-made.made c.requires.number c.requires.cache c.requires.declared actor.opens.numbered actor.state)
+    c.args.cache.now c.in_ok-actor.actor c.requires.number c.requires.cache c.requires.declared actor.opens.numbered actor.state)

@@ -9,7 +9,7 @@ pub returns-after-push-clause-works : goal.returns-after-push-clause-works
 returns-after-push-clause-works g c =
     let t = three c.args.office.now.job.now c.args.office.now.cache.now c.args.office.now.crew.now in
     let was = c.requires.works in
-    let done : IsDone t c.turns.new.seat = record {
+    let done : IsDone t c.visit.new.seat = record {
       of = c.in-Closed.ensures.of;
       kept = c.number-number.ensures.kept;
       closed = c.in-Closed.ensures.closed;
@@ -17,7 +17,7 @@ returns-after-push-clause-works g c =
     let closed : AreDone t c.push.new.self.items = elim c.match-push.branch [
       | in-Ok w ↦
           subst (AreDone t) (sym w.in-Ok.ensures.items)
-          (done_one t c.args.self.now.closed.items c.turns.new.seat done was.closed)
+          (done_one t c.args.self.now.closed.items c.visit.new.seat done was.closed)
       | in-Err w ↦ subst (AreDone t) (sym w.in-Err.ensures.items) was.closed
     ] in
     record { pass = was.pass; serves = was.serves; closed = closed }

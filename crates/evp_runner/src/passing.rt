@@ -42,7 +42,7 @@ fn run_fully(alloc: Global, plan: &Plan, item: Checked, limit: u32) -> Result<Ve
         → IsRunFault fault (convert to (value_of item.entry) limit)) }
 {
     match measure_fully(plan, item.copy(), limit) {
-        Ok(size) => Ok(packed(alloc, plan, item, size)?),
+        Ok(size) => Ok(packed_apart(alloc, plan, item, size)?),
         Err(fault) => Err(RunFault::from(fault)),
     }
 }
@@ -116,11 +116,11 @@ fn handed_on<'a>(
     if plan.alike() {
         return Ok(CowSlice::Borrowed(bytes));
     }
-    Ok(CowSlice::Owned(packed(alloc, plan, item, size)?))
+    Ok(CowSlice::Owned(packed_apart(alloc, plan, item, size)?))
 }
 
 // The packed conversion, of this size.
-#[inline(never)]
+#[inline(always)]
 fn packed(alloc: Global, plan: &Plan, item: Checked, size: u32) -> Result<Vec<u8>, AllocError>
     requires plan_from { IsPlanFrom plan.now item.layout }
     requires size { IsSizeOf plan.now item size }
@@ -130,4 +130,15 @@ fn packed(alloc: Global, plan: &Plan, item: Checked, size: u32) -> Result<Vec<u8
     let mut bytes = vec![in alloc; 0u8; size as usize]?;
     run_over(plan, item, &mut bytes, true);
     Ok(bytes)
+}
+
+// The same, where room for it is made only here.
+#[inline(never)]
+fn packed_apart(alloc: Global, plan: &Plan, item: Checked, size: u32) -> Result<Vec<u8>, AllocError>
+    requires plan_from { IsPlanFrom plan.now item.layout }
+    requires size { IsSizeOf plan.now item size }
+    ensures { IfOk result (λ bytes. AtSize plan.now item.entry size (λ to limit.
+        IsConversion item.entry to limit bytes.items)) }
+{
+    packed(alloc, plan, item, size)
 }

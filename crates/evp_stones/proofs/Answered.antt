@@ -2,10 +2,8 @@
 use Rattle.std.proofs.Common.{◌≡◌, ◌≢◌, ◌⊎◌, ◌↔◌, inl, inr, ℕ, List, Option, Some, None, IsSome, Result, Ok, Err}
 use Rattle.std.proofs.Common.{refl, subst, arith}
 use Rattle.std.proofs.lemmas.Bool.{false≢true}
-use Rattle.std.specs.Io.KnownBytes.{Appends}
-use Rattle.evp_depot.specs.Counts.{Rose}
 use Rattle.evp_depot.specs.Files.{Files}
-use Rattle.evp_depot.specs.Put.{AppendsPart, Puts}
+use Rattle.evp_depot.specs.Put.{Puts}
 use Rattle.evp_stones.specs.Answer.{Answers, Reply, IsBenched, IsReply, IsReadBy, Tells, Told, Refuses}
 use Rattle.evp_stones.specs.declared.refusal.Refusal.{Refusal}
 use Rattle.evp_stones.specs.declared.refusal.Refusal.TheVariants.{Words, Absent, Read, TooLong, NotJson, Job, Data, Order, Memory}

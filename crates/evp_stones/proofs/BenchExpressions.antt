@@ -1,11 +1,10 @@
 -- The expressions of the generator's stones, read and bound.
-use Rattle.std.proofs.Common.{◌≡◌, ℕ, ◌<◌, List, [], ◌∷◌, ◌++◌, codes, pos, Option, None, Result, Ok, Err, refl, ap, arith, decimal}
+use Rattle.std.proofs.Common.{◌≡◌, ℕ, List, [], ◌∷◌, ◌++◌, codes, pos, None, Result, Ok, Err, refl, ap, arith, decimal}
 use Rattle.std.specs.Fmt.{digits}
 use Rattle.evp_eval.specs.Bound.{bound_tree}
 use Rattle.evp_eval.specs.Meaning.{bound}
 use Rattle.evp_expr.specs.declared.fault.ExprFault.{ExprFault}
 use Rattle.evp_expr.specs.declared.operator.Operator.TheVariants as operator
-use Rattle.evp_expr.specs.declared.token.Placed.{Placed}
 use Rattle.evp_expr.specs.declared.token.Token.TheVariants as token
 use Rattle.evp_expr.specs.Grammar.{IsExpression, most_levels, chain, no_more, more, complete}
 use Rattle.evp_expr.specs.Grammar.{unsigned, literal, group, path, first, path_end}

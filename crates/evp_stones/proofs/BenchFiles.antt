@@ -1,25 +1,23 @@
 -- The generator's files are right for its job.
-use Rattle.std.proofs.Common.{◌≡◌, ℕ, zero, suc, ◌+◌, ◌*◌, ◌^◌, ◌<◌, ◌≤◌, nat_lt, nat_le}
-use Rattle.std.proofs.Common.{List, [], ◌∷◌, length, map, Ok, refl, sym, ap, ◌∙◌, subst, arith}
+use Rattle.std.proofs.Common.{◌≡◌, ℕ, zero, suc, ◌+◌, ◌*◌, ◌^◌, ◌<◌, ◌≤◌, nat_lt}
+use Rattle.std.proofs.Common.{List, length, map, Ok, refl, sym, ap, ◌∙◌, subst, arith}
 use Rattle.std.proofs.lemmas.Bool.{le-leb, ltb-true}
 use Rattle.std.proofs.lemmas.List.FromFn.{length-map-range_with_len}
 use Rattle.std.proofs.lemmas.List.Sums.{sum_by-le}
-use Rattle.std.specs.List.{All, range_with_len, sum, sum_by}
+use Rattle.std.specs.List.{range_with_len, sum, sum_by}
 use Rattle.evp_file.specs.declared.file.KnownFormat.{KnownFormat}
 use Rattle.evp_gen.specs.Senders.{sent_item, sent_layout}
 use Rattle.evp_graph.specs.declared.route.Route.{Route}
 use Rattle.evp_graph.specs.Routes.{routes_of}
-use Rattle.evp_job.specs.declared.job_text.JobText.{JobText}
-use Rattle.evp_job.specs.Filling.{bare_job, filled, agree, few_formats, enough_records, enough_from, light_enough, all_layouts}
+use Rattle.evp_job.specs.Filling.{filled, few_formats, enough_records, enough_from, light_enough, all_layouts}
 use Rattle.evp_job.specs.Formats.{known_format}
 use Rattle.evp_job.specs.Stated.{layouts_of}
 use Rattle.evp_job.specs.TextShape.{TextShape}
-use Rattle.evp_job.specs.TextView.{text_of}
 use Rattle.evp_profile.specs.declared.profile.Profile.{Profile}
 use Rattle.evp_profile.specs.declared.profile.Profile.TheVariants.{Le64, Le32, Be64, Be32}
 use Rattle.evp_stone.specs.declared.round.Round.{Round}
 use Rattle.evp_stone.specs.Job.{submits}
-use Rattle.evp_stones.specs.BenchJob.{bench_graph, bench_job, bench_layouts, bench_rounds}
+use Rattle.evp_stones.specs.BenchJob.{bench_graph, bench_layouts, bench_rounds}
 use Rattle.evp_stones.specs.BenchLaws.{bench_files, FillsBenchJob}
 use Rattle.evp_stones.proofs.BenchGraph.{each_passes, routes_counted}
 use Rattle.evp_stones.proofs.BenchSteps.{then_is, passes}

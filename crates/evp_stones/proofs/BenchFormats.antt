@@ -10,14 +10,12 @@ use Rattle.evp_format.specs.TypeText.{word_of, fixed_of, inside_of, shape_of, ba
 use Rattle.evp_gen.specs.Formats.{wide_value, calc_value, short_value, full_value, tight_value, formats_value}
 use Rattle.evp_gen.specs.Document.{sources_value}
 use Rattle.evp_gen.specs.Senders.{declared_field}
-use Rattle.evp_job.specs.declared.fault.JobFault.{JobFault}
 use Rattle.evp_job.specs.Formats.{FormatText, format_text, format_in, profile_in, Named}
 use Rattle.evp_job.specs.Formats.{named_with, is_among, laid, record_length, known_format}
 use Rattle.evp_job.specs.Formats.{new_format, next_format, formats_in}
 use Rattle.evp_job.specs.Forms.{whole_number, number_within, text_in, name_in, list_in, list_within, object_in, no_others}
 use Rattle.evp_job.specs.Sources.{file_name_in, source_in, next_source, sources_in}
 use Rattle.evp_job.specs.Types.{field_values, field_in, fields_in, type_in, types_in}
-use Rattle.evp_profile.specs.declared.profile.Profile.{Profile}
 use Rattle.evp_profile.specs.declared.profile.Profile.TheVariants.{Le64, Le32, Be64, Be32}
 use Rattle.evp_profile.specs.Declarations.{DeclaredField, DeclaredType}
 use Rattle.evp_profile.specs.LayingOut.{stated_field, stated_fields, within_length, laid_type}

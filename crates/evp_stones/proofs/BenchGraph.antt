@@ -1,11 +1,11 @@
 -- The graph of the generator's stones: each target stands behind its stone, so there is no cycle.
-use Rattle.std.proofs.Common.{◌≡◌, ℕ, suc, zero, ◌+◌, ◌<◌, ◌≤◌, Bool, true, false, nat_lt, ◌&&◌, List, [], ◌∷◌, length, refl, arith}
+use Rattle.std.proofs.Common.{◌≡◌, ℕ, suc, zero, ◌+◌, ◌<◌, Bool, true, nat_lt, ◌&&◌, List, [], ◌∷◌, length, refl, arith}
 use Rattle.std.specs.List.{list_all, All}
 use Rattle.std.specs.Prelude.{slice_index_or}
 use Rattle.std.proofs.lemmas.Bool.{and_parts, ltb-true}
 use Rattle.std.proofs.lemmas.List.Elements.{All-nil, All-cons, All-contains, All-weaker}
 use Rattle.evp_graph.specs.Routes.{routes_of}
-use Rattle.evp_graph.specs.Shape.{targets_of, IsTarget, Leads, IsAcyclic, AreStones, HaveTargets, IsSound}
+use Rattle.evp_graph.specs.Shape.{targets_of, IsTarget, Leads, IsAcyclic, AreStones, IsSound}
 use Rattle.evp_stones.specs.BenchJob.{bench_graph}
 
 -- what a test shows of each element, where all pass

@@ -1,5 +1,5 @@
 -- The generator's document states its job, and nothing else.
-use Rattle.std.proofs.Common.{◌≡◌, ℕ, ◌≤◌, List, [], ◌∷◌, codes, Result, Ok, Err, refl, ap, subst, sym, arith}
+use Rattle.std.proofs.Common.{◌≡◌, ℕ, ◌≤◌, codes, Result, Ok, Err, refl, ap, subst, sym, arith}
 use Rattle.evp_base.specs.declared.step.Step.TheVariants.{Field}
 use Rattle.evp_expr.specs.Laws.{OneTree, TreeOrFault}
 use Rattle.evp_gen.specs.Document.{job_value}
@@ -9,7 +9,7 @@ use Rattle.evp_job.specs.declared.fault.JobFault.TheVariants as fault
 use Rattle.evp_job.specs.Expressions.{Reading}
 use Rattle.evp_job.specs.Forms.{whole_number, number_within, object_in, no_others}
 use Rattle.evp_job.specs.Head.{HeadShape, head_with, head_in}
-use Rattle.evp_job.specs.Job.{PartsShape, parts_with, parts_in, IsRouted, IsMadeOf, IsStatedBy}
+use Rattle.evp_job.specs.Job.{PartsShape, parts_with, parts_in, IsRouted, IsMadeOf}
 use Rattle.evp_job.specs.TextShape.{TextShape}
 use Rattle.evp_stones.specs.BenchJob.{bench_graph, bench_job, bench_rounds, bench_sources, bench_stones}
 use Rattle.evp_stones.specs.BenchLaws.{StatesBenchJob}

@@ -1,5 +1,5 @@
 -- The rounds of the generator's document.
-use Rattle.std.proofs.Common.{◌≡◌, ℕ, ◌+◌, ◌-◌, ◌*◌, ◌/◌, ◌≤◌, true, nat_le, ◌&&◌, List, [], ◌∷◌, map, codes, Some, Ok, refl, ap, arith}
+use Rattle.std.proofs.Common.{◌≡◌, ℕ, ◌-◌, ◌*◌, ◌/◌, ◌≤◌, true, nat_le, ◌&&◌, List, [], ◌∷◌, map, codes, Some, Ok, refl, arith}
 use Rattle.std.proofs.lemmas.Bool.{le-leb}
 use Rattle.evp_base.specs.declared.step.Step.TheVariants.{Field}
 use Rattle.evp_gen.specs.Document.{round_value, rounds_value}

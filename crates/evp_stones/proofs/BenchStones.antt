@@ -1,9 +1,8 @@
 -- The stones of the generator's document.
-use Rattle.std.proofs.Common.{◌≡◌, ℕ, ◌++◌, List, [], ◌∷◌, map, codes, Some, None, Ok, decimal, refl, ap}
+use Rattle.std.proofs.Common.{◌≡◌, ℕ, ◌++◌, List, [], ◌∷◌, map, codes, Some, Ok, decimal, refl, ap}
 use Rattle.std.specs.List.{flat_map}
-use Rattle.evp_base.specs.declared.step.Step.TheVariants.{Field, Index}
+use Rattle.evp_base.specs.declared.step.Step.TheVariants.{Field}
 use Rattle.evp_eval.specs.Bound.{bound_tree}
-use Rattle.evp_eval.specs.Meaning.{bound}
 use Rattle.evp_expr.specs.Laws.{OneTree, TreeOrFault}
 use Rattle.evp_expr.specs.Parsing.{HasTree}
 use Rattle.evp_expr.specs.Tree.{Tree}
@@ -18,7 +17,7 @@ use Rattle.evp_job.specs.Settings.{setting_values, setting_in, settings_in, next
 use Rattle.evp_job.specs.Steps.{under}
 use Rattle.evp_job.specs.Stones.{declared_in, stone_number, targets_in, terminal_in, filter_in, router_in, split_in, transform_in}
 use Rattle.evp_job.specs.Stones.{stone_in, stones_in}
-use Rattle.evp_job.specs.TextShape.{stone_with, filter, router, transform}
+use Rattle.evp_job.specs.TextShape.{stone_with, filter, transform}
 use Rattle.evp_stones.specs.BenchJob.{bench_names, bench_layouts, bench_stones, parting, by_fifths, shortening}
 use Rattle.evp_stones.specs.BenchJob.{sharing, ending, wide, calc, thirds, squares, fifths, evens}
 use Rattle.evp_stones.proofs.BenchExpressions.{answered, expression_is, thirds_there, evens_there, fifths_there}

@@ -1,5 +1,5 @@
 -- An answer is the defined one, but where a read or a write failed or memory ran out.
-use Rattle.std.proofs.Common.{◌≡◌, ◌≢◌, ◌⊎◌, inl, inr, ℕ, List, Option, Some, None, IfSome, Result, Ok, Err, refl, sym, subst}
+use Rattle.std.proofs.Common.{◌≡◌, ◌≢◌, ◌⊎◌, inl, inr, ℕ, List, Option, Some, None, IfSome, Ok, Err, refl, sym, subst}
 use Rattle.std.specs.Io.KnownBytes.{Appends}
 use Rattle.evp_depot.specs.Counts.{Rose}
 use Rattle.evp_depot.specs.Files.{Files}
@@ -8,8 +8,8 @@ use Rattle.evp_stones.specs.Completeness.{IsDefined, WroteReply, Gave, PutLine, 
 use Rattle.evp_stones.specs.declared.refusal.Refusal.{Refusal}
 use Rattle.evp_stones.specs.declared.refusal.Refusal.TheVariants.{Words, Absent, Read, TooLong, NotJson, Job, Data, Order, Memory}
 use Rattle.evp_stones.specs.Outcome.{WroteLine}
-use Rattle.evp_stones.specs.Refusals.{refusal_line, refusal_status}
-use Rattle.evp_stones.specs.Steps.{IsFailed, Settles, Works}
+use Rattle.evp_stones.specs.Refusals.{refusal_line}
+use Rattle.evp_stones.specs.Steps.{IsFailed, Settles}
 use Rattle.evp_stones.specs.Words.{Line}
 
 -- ---- by what was worked out

@@ -4,7 +4,7 @@ use Rattle.std.proofs.Common.{List, [], ◌∷◌, length, Option, Some, None, r
 use Rattle.std.proofs.lemmas.Bool.{cases_lt}
 use Rattle.std.proofs.lemmas.Bool.Decides.{nat_tests}
 use Rattle.std.proofs.lemmas.List.Sums.{sum_by-cons}
-use Rattle.std.specs.List.{AllZip, slice_get, sum_by}
+use Rattle.std.specs.List.{slice_get, sum_by}
 use Rattle.std.specs.Prelude.{if◌then◌else◌}
 use Rattle.evp_graph.specs.declared.route.Route.{Route}
 use Rattle.evp_stone.specs.declared.account.Account.{Account}

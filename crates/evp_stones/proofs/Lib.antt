@@ -36,3 +36,5 @@ pub mod CountedOnce
 pub mod JobTotals
 pub mod MadeJobs
 mod BenchExamples
+pub mod Pieced
+pub mod RoundsBehind

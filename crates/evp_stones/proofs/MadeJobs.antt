@@ -1,5 +1,5 @@
 -- The job that the generator's document and files make.
-use Rattle.std.proofs.Common.{◌≡◌, ◌≢◌, ℕ, ◌+◌, ◌<◌, ◌≤◌, ◌^◌, List, [], ◌∷◌, ◌++◌, length, map, take, get_or}
+use Rattle.std.proofs.Common.{◌≡◌, ℕ, ◌+◌, ◌<◌, ◌≤◌, ◌^◌, List, [], ◌∷◌, ◌++◌, length, map, take, get_or}
 use Rattle.std.proofs.Common.{Some, None, Result, Ok, Err, IsOk, IsUtf8, refl, sym, ap, ◌∙◌, subst, arith}
 use Rattle.std.proofs.lemmas.List.{length-map, map_more}
 use Rattle.std.proofs.lemmas.List.Elements.{All-nil, All-cons}
@@ -12,7 +12,6 @@ use Rattle.evp_gen.specs.Document.{job_value}
 use Rattle.evp_gen.specs.Laws.{SentIsRead, SentIsShort}
 use Rattle.evp_gen.specs.Senders.{all_sent, sent_bytes, sent_file}
 use Rattle.evp_job.specs.declared.fault.JobFault.{JobFault}
-use Rattle.evp_job.specs.declared.job.ReadJob.{ReadJob}
 use Rattle.evp_job.specs.declared.job.ReadJob.TheVariants.{NotJson, Job, Memory}
 use Rattle.evp_job.specs.declared.job_text.JobText.{JobText}
 use Rattle.evp_job.specs.Filling.{bare_job, filled}

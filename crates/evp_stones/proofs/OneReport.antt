@@ -9,7 +9,7 @@ use Rattle.evp_job.specs.Filling.{bare_job, filled}
 use Rattle.evp_job.specs.Sources.{SourceShape}
 use Rattle.evp_job.specs.SourceView.{source_of}
 use Rattle.evp_job.specs.Stated.{layouts_of}
-use Rattle.evp_job.specs.TextShape.{StoneShape, TextShape}
+use Rattle.evp_job.specs.TextShape.{TextShape}
 use Rattle.evp_job.specs.TextView.{stones_of, text_of}
 use Rattle.evp_report.specs.Report.{report}
 use Rattle.evp_stone.specs.declared.source.Source.{Source}

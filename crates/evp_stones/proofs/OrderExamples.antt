@@ -1,5 +1,5 @@
 -- Numbers, lines of three and four words, and order files, computed on small values by hand.
-use Rattle.std.proofs.Common.{◌≡◌, ℕ, List, [], ◌∷◌, codes, map, Option, Some, None, Result, Ok, Err, refl}
+use Rattle.std.proofs.Common.{◌≡◌, ℕ, List, [], ◌∷◌, codes, map, Some, None, Result, Ok, Err, refl}
 use Rattle.std.specs.Fmt.{digits}
 use Rattle.evp_stones.specs.declared.refusal.Refusal.{Refusal}
 use Rattle.evp_stones.specs.declared.refusal.Refusal.TheVariants.{Order}

@@ -2,7 +2,6 @@
 use Rattle.std.specs.Prelude.{ℕ, ◌+◌, ◌-◌, ◌*◌, ◌/◌, pos, nat_lt, if◌then◌else◌, List, [], ◌∷◌}
 use Rattle.std.specs.Prelude.{map, codes}
 use Rattle.std.specs.List.{flat_map, range_with_len}
-use Rattle.evp_action.specs.declared.action.Setting.{Setting}
 use Rattle.evp_base.specs.declared.kind.Kind.TheVariants.{Int, Unsigned}
 use Rattle.evp_base.specs.declared.order.Order.{Order}
 use Rattle.evp_base.specs.declared.order.Order.TheVariants.{Little, Big}
@@ -10,7 +9,6 @@ use Rattle.evp_eval.specs.Bound.{bound_tree}
 use Rattle.evp_expr.specs.declared.operator.Operator.TheVariants as operator
 use Rattle.evp_expr.specs.Tree as expr
 use Rattle.evp_expr.specs.Tree.{Tree}
-use Rattle.evp_file.specs.declared.file.KnownFormat.{KnownFormat}
 use Rattle.evp_format.specs.declared.field.Base.TheVariants.{Number, Text}
 use Rattle.evp_format.specs.declared.field.Field.{Field}
 use Rattle.evp_format.specs.declared.field.Shape.TheVariants.{One, Counted}

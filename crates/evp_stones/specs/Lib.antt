@@ -29,3 +29,5 @@ pub mod OutputText
 pub mod Answer
 pub mod Completeness
 pub mod Laws
+pub mod Texts
+pub mod MadeFiles

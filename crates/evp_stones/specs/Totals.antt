@@ -1,5 +1,5 @@
 -- What the accounts of a job come to.
-use Rattle.std.specs.Prelude.{ℕ, ◌+◌, List, [], ◌∷◌, length}
+use Rattle.std.specs.Prelude.{ℕ, List, [], ◌∷◌, length}
 use Rattle.std.specs.List.{sum_by}
 use Rattle.evp_graph.specs.declared.route.Route.{Route}
 use Rattle.evp_stone.specs.Accounts.{accounts_of}

@@ -9,7 +9,8 @@ use evp_base::Memory;
 use evp_core::World;
 use evp_crew::{Gate, carry};
 use evp_depot::{PutFault, Sink};
-use evp_report::write_report;
+use evp_graph::Route;
+use evp_report::{write_report, write_routes};
 use evp_stone::{Account, Job};
 use std::alloc::Global;
 use std::marker::Model;
@@ -42,7 +43,8 @@ impl Model for Carried {
 
 impl Carried {
     ghost use Rattle.evp_depot.specs.Put.{Puts};
-    ghost use Rattle.evp_report.specs.Report.{report};
+    ghost use Rattle.std.specs.Prelude.{◌+◌, ◌^◌};
+    ghost use Rattle.evp_report.specs.Report.{report, routes_lines, StandFrom};
     ghost use Rattle.evp_stones.specs.Totals.{totals_of};
 
     /// The job, carried by so many workers. The gate is called before each turn of a worker.
@@ -88,6 +90,37 @@ impl Carried {
         ensures { Puts K.faults K.put sink.old sink.new (report self.now) result }
     {
         write_report(&self.job, &self.accounts, sink)
+    }
+
+    /// How many rounds the job has.
+    pub fn rounds(&self) -> usize
+        ensures { result ≡ length self.now.rounds }
+    {
+        self.job.parts().rounds.as_slice().len()
+    }
+
+    /// The job's routes.
+    pub fn all_routes(&self) -> &[Route]
+        ensures { result.now ≡ self.now.routes }
+    {
+        self.job.parts().routes.as_slice()
+    }
+
+    /// Writes the lines that some routes have in a round; the routes are those of the job from
+    /// number `from` on. It takes no memory.
+    pub fn write_routes<K: Sink>(
+        &self,
+        round: usize,
+        from: usize,
+        routes: &[Route],
+        sink: &mut K,
+    ) -> Result<(), PutFault>
+        requires stand { StandFrom self.now.routes from routes.now }
+        requires few { from + length routes.now < 2 ^ 64 }
+        ensures { Puts K.faults K.put sink.old sink.new
+            (routes_lines self.now round routes.now) result }
+    {
+        write_routes(&self.job, &self.accounts, round, from, routes, sink)
     }
 }
 

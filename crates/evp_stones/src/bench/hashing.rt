@@ -1,9 +1,6 @@
-//! The digest of a report, which is hashed as it is written.
+//! A digest of text, which is hashed as it is written.
 ghost use Rattle.std.specs.Prelude.{◌≡◌, ◌++◌, map};
-ghost use Rattle.sha2.specs.Sha256.{sha256};
-ghost use Rattle.evp_report.specs.Report.{report};
 
-use crate::carried::Carried;
 use evp_depot::{Sink, SinkFault};
 use http_server::Log;
 use sha2::{Digest, Sha256};
@@ -11,7 +8,7 @@ use std::marker::Model;
 
 /// A sink that hashes what it takes (SHA-256), and keeps none of it. It never fails.
 #[derive(Drop)]
-struct Hashing {
+pub(super) struct Hashing {
     hasher: Sha256,
     // What was hashed. It takes no memory, and only proofs read it.
     taken: Log<u8, ()>,
@@ -29,11 +26,11 @@ impl Model for Hashing {
 }
 
 impl Hashing {
-    ghost use Rattle.std.specs.Prelude.{◌≡◌, []};
+    ghost use Rattle.std.specs.Prelude.{◌≡◌, ◌++◌, []};
     ghost use Rattle.sha2.specs.Sha256.{sha256};
 
-    // Nothing was hashed.
-    fn new() -> Hashing
+    /// Nothing was hashed.
+    pub(super) fn new() -> Hashing
         ensures { result ≡ [] }
     {
         Hashing {
@@ -42,8 +39,16 @@ impl Hashing {
         }
     }
 
-    // The SHA-256 of what was hashed.
-    fn digest(self) -> [u8; 32]
+    /// Hashes these bytes behind what was hashed.
+    pub(super) fn add(&mut self, bytes: &[u8])
+        ensures { self.new ≡ self.old ++ bytes.now }
+    {
+        self.hasher.update(bytes);
+        note(&mut self.taken, bytes);
+    }
+
+    /// The SHA-256 of what was hashed.
+    pub(super) fn digest(self) -> [u8; 32]
         ensures { result ≡ sha256 self }
     {
         self.hasher.finalize()
@@ -59,8 +64,7 @@ impl Sink for Hashing {
 
     /// Takes the whole piece.
     fn write(&mut self, bytes: &[u8]) -> Result<usize, SinkFault> {
-        self.hasher.update(bytes);
-        note(&mut self.taken, bytes);
+        self.add(bytes);
         Ok(bytes.len())
     }
 }
@@ -72,16 +76,5 @@ fn note(taken: &mut Log<u8, ()>, bytes: &[u8])
 {
     for byte in bytes {
         *taken = taken.and(byte, &());
-    }
-}
-
-/// The SHA-256 of the job's report.
-pub(super) fn report_digest(carried: &Carried) -> [u8; 32]
-    ensures { result ≡ sha256 (report carried.now) }
-{
-    let mut sink = Hashing::new();
-    match carried.write(&mut sink) {
-        Ok(()) => sink.digest(),
-        Err(_) => unreachable!(),
     }
 }

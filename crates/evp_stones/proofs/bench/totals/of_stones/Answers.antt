@@ -1,5 +1,5 @@
-use Rattle.std.proofs.Common.{◌∙◌, ◌*◌, ◌+◌, ◌^◌, ◌≡◌, ap, sym, take, arith}
-use Rattle.evp_stones.specs.AccountTotals.{both, route_of, stone_of, IsWithin}
+use Rattle.std.proofs.Common.{◌∙◌, ◌*◌, ◌+◌, ◌^◌, ap, sym, take, arith}
+use Rattle.evp_stones.specs.AccountTotals.{both, route_of, stone_of}
 use Rattle.evp_stones.specs.declared.bench.totals.Totals.{Totals}
 use Rattle.evp_stones.specs.Totals.{sums}
 use Rattle.evp_stones.proofs.TotalSums.{sums_more, within_both}

@@ -46,10 +46,10 @@ module _ {X R : Type 0} (lines : X → List ℕ) (text : R → List ℕ) (size :
   pieces_from (r ∷ rs) at each end =
       let start : at + 0 * size ≡ at = omega arith in
       let first : text r ≡ flat_map lines (take size (drop at xs)) =
-          each 0 r (omega arith) ∙ ap (λ n. flat_map lines (take size (drop n xs))) start in
+      each 0 r (omega arith) ∙ ap (λ n. flat_map lines (take size (drop n xs))) start in
       let rest : flat_map text rs ≡ flat_map lines (drop (at + size) xs) =
-          pieces_from rs (at + size) (λ k d below. each (suc k) d (omega (arith, below)) ∙ ap (λ n. flat_map lines (take size (drop n xs))) (next at k))
-          (subst (λ n. length xs ≤ n) (next at (length rs)) end) in
+      pieces_from rs (at + size) (λ k d below. each (suc k) d (omega (arith, below)) ∙ ap (λ n. flat_map lines (take size (drop n xs))) (next at k))
+      (subst (λ n. length xs ≤ n) (next at (length rs)) end) in
       ap (λ front. front ++ flat_map text rs) first ∙ ap (λ others. flat_map lines (take size (drop at xs)) ++ others) rest
       ∙ piece_first lines size at xs where
         next : (at k : ℕ) → at + suc k * size ≡ at + size + k * size

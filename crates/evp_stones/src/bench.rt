@@ -16,9 +16,9 @@ mod summary;
 mod totals;
 
 use crate::carried::Carried;
+use digest::report_digest;
 use evp_base::Memory;
 use evp_crew::Gate;
-use digest::report_digest;
 use made_job::made_job;
 use std::alloc::Global;
 use std::mem;

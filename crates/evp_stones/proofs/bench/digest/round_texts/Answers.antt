@@ -21,13 +21,13 @@ returns g c =
     let whole = c.in_ok-texts.texts.ok.0 in
     let number : length routes / size + min 1 (length routes % size) ≡ length texts = omega (arith, whole, c.in_ok-texts.ensures.len) in
     if_both c.all_there.result _ _ _ (λ all same there.
-      ap (flat_map text_of) same
-      ∙ pieces_all (λ route. told_in c.args.round (told_of carried route)) text_of size routes texts
-      (λ k d below.
-          let gives = (c.in_ok-texts.ensures.each k d below).1 in
-          text_there texts _ k d (subst (λ l. list_all is_some l ≡ true) same there) below
-          (subst (λ piece. IfSome (get_or texts k d) (λ text. text.items ≡ routes_lines carried c.args.round piece))
-          gives.argument_is.value gives.call))
-      (subst (λ n. length routes ≤ n * size) number (covered (length routes) size some))
-      ∙ ap (routes_lines carried c.args.round) c.all_routes-routes.ensures)
+    ap (flat_map text_of) same
+    ∙ pieces_all (λ route. told_in c.args.round (told_of carried route)) text_of size routes texts
+    (λ k d below.
+    let gives = (c.in_ok-texts.ensures.each k d below).1 in
+    text_there texts _ k d (subst (λ l. list_all is_some l ≡ true) same there) below
+    (subst (λ piece. IfSome (get_or texts k d) (λ text. text.items ≡ routes_lines carried c.args.round piece))
+    gives.argument_is.value gives.call))
+    (subst (λ n. length routes ≤ n * size) number (covered (length routes) size some))
+    ∙ ap (routes_lines carried c.args.round) c.all_routes-routes.ensures)
     c.all_there.ensures.same c.all_there.ensures.there

@@ -17,13 +17,15 @@ made_files-requires g c =
     let n = c.args.records in
     let text = c.in_ok-text.text in
     let bounded = c.in_ok-text.ensures.kept.bounded in
-    let most = bounded.longest.1 in
-    (c.type_bounds.sync-R, record {
-      few = c.requires.few;
-      formats = bounded.formats;
-      readable = all_readable c.sent_is_read.ensures c.sent_is_short.ensures n c.requires.few text.formats.items text.limit bounded.longest.0
-          (omega (arith, most));
-    })
+    let most = bounded.longest.1 in (
+      c.type_bounds.sync-R,
+      record {
+        few = c.requires.few;
+        formats = bounded.formats;
+        readable = all_readable c.sent_is_read.ensures c.sent_is_short.ensures n c.requires.few text.formats.items text.limit bounded.longest.0
+            (omega (arith, most));
+      },
+    )
 
 pub fill-requires-clause-read : goal.fill-requires-clause-read
 fill-requires-clause-read g c =

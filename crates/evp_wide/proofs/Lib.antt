@@ -1,4 +1,5 @@
 pub mod Examples
+pub mod Windows
 pub mod Gathers
 pub mod Signs
 pub mod Blocks

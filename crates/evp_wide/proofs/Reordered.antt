@@ -1,6 +1,6 @@
 -- Numbers in another order are their bytes reversed, and in the same order their bytes.
-use Rattle.std.proofs.Common.{◌≡◌, ◌≢◌, ℕ, zero, suc, ◌+◌, ◌*◌, ◌/◌, ◌%◌, IsTrue, true, false, List, [], ◌∷◌, ◌++◌, length, take, drop, get_or, reverse}
-use Rattle.std.proofs.Common.{refl, sym, ap, ◌∙◌, subst, arith, ◌<◌}
+use Rattle.std.proofs.Common.{◌≡◌, ◌≢◌, ℕ, zero, suc, ◌+◌, ◌*◌, ◌/◌, ◌%◌, IsTrue, true, false, List, [], ◌∷◌, ◌++◌, length}
+use Rattle.std.proofs.Common.{take, drop, get_or, reverse, refl, sym, ap, ◌∙◌, subst, arith, ◌<◌}
 use denote.Enum.Bare.{sameb}
 use Rattle.evp_base.specs.contracts.order.Order.{the_type}
 use Rattle.std.specs.List.{flat_map}

@@ -1,6 +1,6 @@
 -- The signs of what a shuffle of sixteen lanes picks.
-use Rattle.std.proofs.Common.{◌≡◌, ℕ, ◌+◌, ◌<◌, ◌≤◌, Bool, false, cond, ltb, List, ◌++◌, length, take, drop, map, get_or, refl, sym, ap, ◌∙◌}
-use Rattle.std.proofs.Common.{w8, arith}
+use Rattle.std.proofs.Common.{◌≡◌, ℕ, ◌+◌, ◌<◌, ◌≤◌, Bool, false, cond, ltb, List, ◌++◌, length, take, drop, map, get_or}
+use Rattle.std.proofs.Common.{refl, sym, ap, ◌∙◌, w8, arith}
 use Rattle.std.specs.Prelude.{replicate, bit_or, bit_and}
 use Rattle.std.proofs.lemmas.Grind.{same_number_lists}
 use Rattle.std.proofs.lemmas.List.{get_or-map, length-map, length-take, length-drop, length-replicate}

@@ -2,7 +2,9 @@
 //! another size.
 #![tactic(auto)]
 
+mod clearing;
 mod elements;
+mod fronts;
 mod lanes;
 mod mover;
 mod numbers;
@@ -10,13 +12,17 @@ mod orders;
 mod swap;
 mod widen;
 mod words;
+mod zeros;
 
+pub use clearing::clear;
+pub use fronts::put_front;
 pub use lanes::{Blend, Mask, gather, gather_blend, gather_or, gather_signs};
 pub use numbers::rewrite;
 pub use orders::reorder;
 pub use swap::{swap2, swap4, swap8};
 pub use widen::{widen_signed, widen_unsigned};
 pub use words::{get_word, half_of, put_word, rewrite_number};
+pub use zeros::zero_at;
 
 #[cfg(test)]
 mod tests;

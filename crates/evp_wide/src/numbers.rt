@@ -54,10 +54,64 @@ fn rewrite_from(
     ensures { out.new ≡ rewritten kind out_order out_size from_order from_size from.now }
 {
     match out_size {
-        1 => rewrite_each(out, 1, out_order, from, from_size, from_order, kind),
-        2 => rewrite_each(out, 2, out_order, from, from_size, from_order, kind),
-        4 => rewrite_each(out, 4, out_order, from, from_size, from_order, kind),
-        _ => rewrite_each(out, 8, out_order, from, from_size, from_order, kind),
+        1 => rewrite_kind(out, 1, out_order, from, from_size, from_order, kind),
+        2 => rewrite_kind(out, 2, out_order, from, from_size, from_order, kind),
+        4 => rewrite_kind(out, 4, out_order, from, from_size, from_order, kind),
+        _ => rewrite_kind(out, 8, out_order, from, from_size, from_order, kind),
+    }
+}
+
+// The same of a kind that the compiler knows, so that no number asks for it.
+#[inline(always)]
+fn rewrite_kind(
+    out: &mut [u8],
+    out_size: u32,
+    out_order: Order,
+    from: &[u8],
+    from_size: u32,
+    from_order: Order,
+    kind: Kind,
+)
+    requires out_width { IsTrue (is_width out_size) }
+    requires from_width { IsTrue (is_width from_size) }
+    requires whole { length from.now % from_size ≡ 0 }
+    requires out { length out.old ≡ length from.now / from_size * out_size }
+    ensures { out.new ≡ rewritten kind out_order out_size from_order from_size from.now }
+{
+    match kind {
+        Kind::Int | Kind::Enumeration => {
+            rewrite_each(
+                out,
+                out_size,
+                out_order,
+                from,
+                from_size,
+                from_order,
+                Kind::Int,
+            );
+        }
+        Kind::Unsigned | Kind::Char => {
+            rewrite_each(
+                out,
+                out_size,
+                out_order,
+                from,
+                from_size,
+                from_order,
+                Kind::Unsigned,
+            );
+        }
+        Kind::Boolean => {
+            rewrite_each(
+                out,
+                out_size,
+                out_order,
+                from,
+                from_size,
+                from_order,
+                Kind::Boolean,
+            );
+        }
     }
 }
 

@@ -156,3 +156,42 @@ fn signs_fill_bytes(rt: HostRuntime) -> Result<(), Fail> {
     );
     Ok(())
 }
+
+#[test]
+fn the_first_zero_byte_is_found(rt: HostRuntime) -> Result<(), Fail> {
+    let mut bytes = [7; 40];
+    assert_eq!(rt; zero_at(&bytes), None);
+    bytes[39] = 0;
+    assert_eq!(rt; zero_at(&bytes), Some(39));
+    bytes[31] = 0;
+    assert_eq!(rt; zero_at(&bytes), Some(31));
+    bytes[16] = 0;
+    assert_eq!(rt; zero_at(&bytes), Some(16));
+    bytes[15] = 0;
+    assert_eq!(rt; zero_at(&bytes), Some(15));
+    assert_eq!(rt; zero_at(&bytes[..15]), None);
+    bytes[0] = 0;
+    assert_eq!(rt; zero_at(&bytes), Some(0));
+    Ok(())
+}
+
+#[test]
+fn few_bytes_are_written_and_cleared(rt: HostRuntime) -> Result<(), Fail> {
+    let from = [
+        1, 2, 3, 4, 5, 6, 7, 8, 9, 10, 11, 12, 13, 14, 15, 16, 17, 18, 19, 20,
+    ];
+    let mut out = [0xff; 22];
+    put_front(&mut out, 2, &from, 3);
+    assert_eq!(rt; &out[..6], [0xff, 0xff, 1, 2, 3, 0xff].as_slice());
+    put_front(&mut out, 1, &from, 20);
+    assert_eq!(rt;
+        out,
+        [
+            0xff, 1, 2, 3, 4, 5, 6, 7, 8, 9, 10, 11, 12, 13, 14, 15, 16, 17, 18, 19, 20, 0xff,
+        ]
+    );
+    clear(&mut out[1..21]);
+    assert_eq!(rt; &out[..3], [0xff, 0, 0].as_slice());
+    assert_eq!(rt; &out[19..], [0, 0, 0xff].as_slice());
+    Ok(())
+}

@@ -1,5 +1,5 @@
 //! Numbers of 1, 2, 4 and 8 bytes as words.
-ghost use Rattle.std.specs.Prelude.{◌≡◌, ◌<◌, ◌+◌, ◌*◌, ◌%◌, ◌^◌, IsTrue, length, pos};
+ghost use Rattle.std.specs.Prelude.{◌≡◌, ◌<◌, ◌+◌, ◌-◌, ◌*◌, ◌%◌, ◌^◌, IsTrue, length, pos};
 ghost use Rattle.evp_base.specs.Numbers.{number, magnitude, digits, residue, twos_complement};
 ghost use Rattle.evp_base.specs.Numbers.{is_width, is_word_length};
 
@@ -69,7 +69,8 @@ fn write_word<B: ByteOrder>(out: &mut [u8], word: u64)
 #[inline(always)]
 pub fn half_of(size: usize) -> u64
     requires { IsTrue (is_width size) }
-    ensures { 2 * result ≡ 2 ^ (8 * size) }
+    ensures value { result ≡ 2 ^ (8 * size - 1) }
+    ensures half { 2 * result ≡ 2 ^ (8 * size) }
 {
     match size {
         1 => 0x80,

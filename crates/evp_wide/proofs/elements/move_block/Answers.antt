@@ -24,8 +24,8 @@ returns c =
     let room = room_for m.count m.out_size m.from_size m.whole m.shorter in
     let place : k * (m.from_size * m.count) ≡ k * m.count * m.from_size =
     ap (λ (n : ℕ). k * n) (mul_comm m.from_size m.count) ∙ sym (mul_assoc k m.count m.from_size) in
-    let made = block_made c.args.out.now c.gather_lanes.new.out from m.mask _ m.from_size m.count (k * m.count) (k * 16) _ m.repeats m.within
-    room m.sixteen c.requires.out place c.requires.before c.gather_lanes.ensures in
+    let made = block_made c.args.out.now c.gather_lanes.new.out from m.mask _ m.from_size m.count (k * m.count) (k * 16) _ m.repeats
+    m.within room m.sixteen c.requires.out place c.requires.before c.gather_lanes.ensures in
     let next : (k + 1) * 16 ≡ k * 16 + 16 = omega arith in
     ap (λ (n : ℕ). take n c.gather_lanes.new.out) next ∙ made
     ∙ ap (λ (n : ℕ). flat_map (gathered places) (groups m.from_size n from)) (omega (arith, add-mul k 1 m.count))

@@ -1,0 +1,116 @@
+-- The front of some bytes put in the place of others.
+use Rattle.std.proofs.Common.{◌≡◌, ℕ, zero, suc, ◌+◌, ◌-◌, ◌<◌, ◌≤◌, cond, ltb, Bool, true, false, List, [], ◌∷◌, ◌++◌, length, take, drop}
+use Rattle.std.proofs.Common.{map, drop-drop, append_assoc, w8, refl, sym, ap, ◌∙◌, arith, inl, inr}
+use Rattle.std.proofs.lemmas.Bool.{cases_lt}
+use Rattle.std.proofs.lemmas.Bool.Decides.{nat_tests}
+use Rattle.std.proofs.lemmas.List.{length-take, length-drop, length-append, take-append-le, drop-append-le, take-append-drop, take_at, drop_at, take_all}
+use Rattle.std.proofs.lemmas.List.{take-replicate, replicate-append-replicate}
+use Rattle.std.proofs.Math.Seq.{take-append-add}
+use Rattle.std.proofs.lemmas.Simd.{tops_compared, zip2_splat, take_more_put_chunk, length-replicate, length-sel_l}
+use Rattle.std.specs.List.{range_with_len}
+use Rattle.std.specs.Prelude.{replicate}
+use lib.Lanes.{put_chunk, zip2, sel_l, top}
+use Rattle.evp_wide.proofs.Gathers.{put_sixteen}
+
+-- ---- a choice of lanes
+
+none_left : (n : ℕ) → ◌≡◌ {A = List ℕ} (take n [] ++ drop n []) []
+none_left zero = refl
+none_left (suc n) = refl
+
+-- the lanes below n are those of the first, and the others those of the second
+chosen : (n k : ℕ) (first second : List ℕ) → length second ≡ length first
+    → sel_l (map (λ x. ltb x n) (range_with_len k (length first))) first second ≡ take (n - k) first ++ drop (n - k) second
+chosen n k [] [] same = sym (none_left (n - k))
+chosen n k (x ∷ first) [] same = cc
+chosen n k [] (y ∷ second) same = cc
+chosen n k (x ∷ first) (y ∷ second) same =
+    let later = chosen n (k + 1) first second (omega (arith, same)) in
+    elim (cases_lt k n) [
+      | inl below ↦
+          let test : ltb k n ≡ true = grind (arith, nat_tests) in
+          let more : n - k ≡ suc (n - (k + 1)) = omega arith in
+          (λ i. cond (test i) x y ∷ later i) ∙ sym (ap (λ (m : ℕ). take m (x ∷ first) ++ drop m (y ∷ second)) more)
+      | inr past ↦
+          let test : ltb k n ≡ false = grind (arith, nat_tests) in
+          let none : n - k ≡ 0 = omega arith in
+          let none' : n - (k + 1) ≡ 0 = omega arith in
+          (λ i. cond (test i) x y ∷ later i) ∙ ap (λ (m : ℕ). y ∷ (take m first ++ drop m second)) none'
+          ∙ sym (ap (λ (m : ℕ). take m (x ∷ first) ++ drop m (y ∷ second)) none)
+    ]
+
+take_less : (n m : ℕ) (xs : List ℕ) → n ≤ m → m ≤ length xs → take n (take m xs) ≡ take n xs
+take_less n m xs less within =
+    sym (take-append-le n (take m xs) (drop m xs) (omega (arith, length-take m xs))) ∙ ap (take n) (take-append-drop m xs)
+
+-- ---- a window of sixteen
+
+-- as the comparison of the lanes' places with n chooses
+abbrev pub front_lanes : ℕ → List Bool
+front_lanes n = map (top 7) (zip2 (λ a b. cond (ltb a b) 255 0) (range_with_len 0 16) (replicate 16 n))
+
+pub window_put : (to at n : ℕ) (out from : List ℕ) → at + 16 ≤ length from → to + 16 ≤ length out → n ≤ 16
+    → put_chunk to out (sel_l (front_lanes n) (take 16 (drop at from)) (take 16 (drop to out)))
+    ≡ take to out ++ (take n (drop at from) ++ drop (to + n) out)
+window_put to at n out from inside room few =
+    let window = take 16 (drop at from) in
+    let stood = take 16 (drop to out) in
+    let window_long : length window ≡ 16 = omega (arith, length-take 16 (drop at from), length-drop at from) in
+    let stood_long : length stood ≡ 16 = omega (arith, length-take 16 (drop to out), length-drop to out) in
+    let lanes : front_lanes n ≡ map (λ x. ltb x n) (range_with_len 0 16) =
+    tops_compared w8 ltb (range_with_len 0 16) (replicate 16 n) ∙ zip2_splat ltb (range_with_len 0 16) 16 n refl in
+    let made : sel_l (front_lanes n) window stood ≡ take n window ++ drop n stood =
+    ap (λ (ms : List Bool). sel_l ms window stood) (lanes ∙ ap (λ (m : ℕ). map (λ x. ltb x n) (range_with_len 0 m)) (sym window_long))
+    ∙ chosen n 0 window stood (stood_long ∙ sym window_long)
+    ∙ ap (λ (m : ℕ). take m window ++ drop m stood) (omega arith) in
+    let long : length (take n window ++ drop n stood) ≡ 16 =
+    omega (arith, length-append (take n window) (drop n stood), length-take n window, length-drop n stood, window_long, stood_long) in
+    let behind : drop n stood ++ drop (to + 16) out ≡ drop (to + n) out =
+    ap (λ (rest : List ℕ). drop n stood ++ rest) (sym (drop-drop 16 to out))
+    ∙ sym (drop-append-le n stood (drop 16 (drop to out)) (omega (arith, stood_long)))
+    ∙ ap (drop n) (take-append-drop 16 (drop to out)) ∙ drop-drop n to out in
+    ap (put_chunk to out) made ∙ put_sixteen to out (take n window ++ drop n stood) room long
+    ∙ ap (λ (rest : List ℕ). take to out ++ rest) (append_assoc (take n window) (drop n stood) (drop (to + 16) out)
+    ∙ (λ i. take_less n 16 (drop at from) few (omega (arith, length-drop at from)) i ++ behind i))
+
+-- ---- two windows, one behind the other
+
+pub two_put : (to count : ℕ) (out from : List ℕ) → 16 ≤ count → count ≤ length from → to + count ≤ length out
+    → take (to + 16) (take to out ++ (take 16 from ++ drop (to + 16) out))
+    ++ (take (count - 16) (drop 16 from) ++ drop (to + 16 + (count - 16)) (take to out ++ (take 16 from ++ drop (to + 16) out)))
+    ≡ take to out ++ (take count from ++ drop (to + count) out)
+two_put to count out from many inside room =
+    let before = take to out in
+    let first = take 16 from in
+    let second = take (count - 16) (drop 16 from) in
+    let rest = drop (to + 16) out in
+    let long : length (before ++ first) ≡ to + 16 =
+    omega (arith, length-append before first, length-take to out, length-take 16 from) in
+    let first_long : length first ≡ 16 = omega (arith, length-take 16 from) in
+    let joined : before ++ (first ++ rest) ≡ (before ++ first) ++ rest = sym (append_assoc before first rest) in
+    let front : take (to + 16) (before ++ (first ++ rest)) ≡ before ++ first =
+    ap (take (to + 16)) joined ∙ take_at (before ++ first) rest (to + 16) long in
+    let behind : drop (to + 16 + (count - 16)) (before ++ (first ++ rest)) ≡ drop (to + count) out =
+    sym (drop-drop (count - 16) (to + 16) (before ++ (first ++ rest)))
+    ∙ ap (drop (count - 16)) (ap (drop (to + 16)) joined ∙ drop_at (before ++ first) rest (to + 16) long)
+    ∙ drop-drop (count - 16) (to + 16) out ∙ ap (λ (n : ℕ). drop n out) (omega (arith, many)) in
+    let whole : first ++ second ≡ take count from =
+    sym (take-append-add first (drop 16 from) (count - 16))
+    ∙ ap (λ (n : ℕ). take n (first ++ drop 16 from)) (omega (arith, many, first_long))
+    ∙ ap (take count) (take-append-drop 16 from) in
+    (λ i. front i ++ (second ++ behind i)) ∙ append_assoc before first (second ++ drop (to + count) out)
+    ∙ ap (λ (l : List ℕ). before ++ l) (sym (append_assoc first second (drop (to + count) out)) ∙ ap (λ (l : List ℕ). l ++ drop (to + count) out) whole)
+
+-- ---- zeros
+
+pub zeros_more : (at done : ℕ) (out : List ℕ) → at ≤ done → done ≤ length out → at + 16 ≤ length out → take done out ≡ replicate done 0
+    → take (at + 16) (put_chunk at out (replicate 16 0)) ≡ replicate (at + 16) 0
+zeros_more at done out less within room zeros =
+    take_more_put_chunk at out (replicate 16 0) (at + 16) refl room
+    ∙ ap (λ (l : List ℕ). l ++ replicate 16 0)
+    (sym (take_less at done out less within) ∙ ap (take at) zeros ∙ take-replicate at done 0 less)
+    ∙ replicate-append-replicate at 16 0
+
+-- what is all in front is all
+pub zeros_whole : (n : ℕ) (out : List ℕ) → n ≡ length out → take n out ≡ replicate n 0 → out ≡ replicate (length out) 0
+zeros_whole n out whole zeros = sym (take_all n out (omega (arith, whole))) ∙ zeros ∙ ap (λ (m : ℕ). replicate m 0) whole

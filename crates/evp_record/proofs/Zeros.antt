@@ -1,53 +1,49 @@
 -- The first zero byte by its index, and the text before it.
-use Rattle.std.proofs.Common.{◌≡◌, ℕ, zero, suc, ◌<◌, ◌≤◌, Bool, true, false, nat_eq, List, [], ◌∷◌, length, Option, Some, None, refl, sym}
-use Rattle.std.proofs.Common.{ap, ◌∙◌, arith}
+use Rattle.std.proofs.Common.{◌≡◌, ℕ, zero, suc, ◌<◌, Bool, true, false, nat_eq, List, [], ◌∷◌, length, Option, Some, None, refl, sym, ap}
+use Rattle.std.proofs.Common.{arith}
 use Rattle.std.specs.Prelude.{option_map, IfSome, if◌then◌else◌}
-use Rattle.memchr.specs.Find.{IsFirstByte, TakesFirst, first_of, is_byte, Nowhere, Passes, places}
-use Rattle.memchr.proofs.lemmas.ValueLemmas.{IsFirstByte-value}
+use Rattle.memchr.specs.Find.{IsFirstByte, is_byte, Nowhere, Passes}
 use Rattle.evp_format.specs.Viewing.{until_zero}
 
-none_behind : (byte : ℕ) (bytes : List ℕ) (n : ℕ) → nat_eq byte 0 ≡ false → Nowhere (Passes (is_byte 0) bytes) 0 n → (k : ℕ) → 0 ≤ k
-    → k < suc n
-    → ¬ Passes (is_byte 0) (byte ∷ bytes) k
-none_behind byte bytes n other nowhere zero low high is = cc
-none_behind byte bytes n other nowhere (suc k) low high is = nowhere k (omega arith) (omega (arith, high)) is
+-- no byte is zero
+none_zero : (bytes : List ℕ) → Nowhere (Passes (is_byte 0) bytes) 0 (length bytes) → until_zero bytes ≡ None
+none_zero [] nowhere = refl
+none_zero (byte ∷ bytes) nowhere =
+    by_test (nat_eq byte 0) (λ is. nowhere 0 (omega arith) (omega arith) is)
+    (none_zero bytes (λ k low high is. nowhere (suc k) (omega arith) (omega (arith, high)) is))
+  where
+    by_test : (is_zero : Bool) → ¬ (is_zero ≡ true) → until_zero bytes ≡ None
+        → (if is_zero then Some [] else option_map (λ rest. byte ∷ rest) (until_zero bytes)) ≡ None
+    by_test true not_zero later = absurd (not_zero refl)
+    by_test false not_zero later = ap (option_map (λ (rest : List ℕ). byte ∷ rest)) later
 
-behind : (byte : ℕ) (bytes : List ℕ) (found : Option (List ℕ)) → nat_eq byte 0 ≡ false
-    → IsFirstByte (is_byte 0) bytes (option_map length found)
-    → IsFirstByte (is_byte 0) (byte ∷ bytes) (option_map length (option_map (λ rest. byte ∷ rest) found))
-behind byte bytes None other nowhere = none_behind byte bytes (length bytes) other nowhere
-behind byte bytes (Some rest) other is =
-    (record { low = omega arith; high = omega (arith, is.0.high); before = none_behind byte bytes (length rest) other is.0.before }, is.1)
+-- byte k is the first zero
+first_zero : (bytes : List ℕ) (k : ℕ) → k < length bytes → Nowhere (Passes (is_byte 0) bytes) 0 k → Passes (is_byte 0) bytes k
+    → option_map length (until_zero bytes) ≡ Some k
+first_zero [] k below nowhere here = absurd (omega (arith, below))
+first_zero (byte ∷ bytes) zero below nowhere here =
+    ap (λ (is_zero : Bool). option_map length (if is_zero then Some [] else option_map (λ rest. byte ∷ rest) (until_zero bytes))) here
+first_zero (byte ∷ bytes) (suc k) below nowhere here =
+    by_test (nat_eq byte 0) (λ is. nowhere 0 (omega arith) (omega arith) is)
+    (first_zero bytes k (omega (arith, below)) (λ i low high is. nowhere (suc i) (omega arith) (omega (arith, high)) is) here)
+  where
+    longer : (found : Option (List ℕ)) → option_map length found ≡ Some k
+        → option_map length (option_map (λ rest. byte ∷ rest) found) ≡ Some (suc k)
+    longer None is = cc
+    longer (Some rest) is = let same : length rest ≡ k = cc in ap (λ (n : ℕ). Some (suc n)) same
 
-by_test : (byte : ℕ) (bytes : List ℕ) (is_zero : Bool) → nat_eq byte 0 ≡ is_zero
-    → IsFirstByte (is_byte 0) bytes (option_map length (until_zero bytes))
-    → IsFirstByte (is_byte 0) (byte ∷ bytes)
-    (option_map length (if is_zero then Some [] else option_map (λ rest. byte ∷ rest) (until_zero bytes)))
-by_test byte bytes true is later
-    = (record { low = omega arith; high = omega arith; before = λ k low high here. absurd (omega (arith, high)) }, is)
-by_test byte bytes false is later = behind byte bytes (until_zero bytes) is later
+    by_test : (is_zero : Bool) → ¬ (is_zero ≡ true) → option_map length (until_zero bytes) ≡ Some k
+        → option_map length (if is_zero then Some [] else option_map (λ rest. byte ∷ rest) (until_zero bytes)) ≡ Some (suc k)
+    by_test true not_zero later = absurd (not_zero refl)
+    by_test false not_zero later = longer (until_zero bytes) later
 
 -- the first zero byte ends the text
-first_byte : (bytes : List ℕ) → IsFirstByte (is_byte 0) bytes (option_map length (until_zero bytes))
-first_byte [] = λ k low high here. absurd (omega (arith, high))
-first_byte (byte ∷ bytes) = by_test byte bytes (nat_eq byte 0) refl (first_byte bytes)
+pub zero_found : (bytes : List ℕ) (found : Option ℕ) → IsFirstByte (is_byte 0) bytes found → found ≡ option_map length (until_zero bytes)
+zero_found bytes None nowhere = sym (ap (option_map length) (none_zero bytes nowhere))
+zero_found bytes (Some k) is = sym (first_zero bytes k is.0.high is.0.before is.1)
 
-taken_first : (all : List ℕ) (found : Option ℕ) (left : List ℕ) → TakesFirst all found left → found ≡ first_of all
-unfolding first_of
-taken_first all None left taken = sym (ap first_of taken.0)
-taken_first all (Some k) left taken = sym (ap first_of taken)
+pub zero_within : (bytes : List ℕ) (found : Option ℕ) → IsFirstByte (is_byte 0) bytes found → IfSome found (λ n. n < length bytes)
+zero_within bytes None nowhere = tt
+zero_within bytes (Some k) is = is.0.high
 
--- the first of the places with a zero byte is the text's length
-pub zero_taken : (bytes all : List ℕ) (found : Option ℕ) (left : List ℕ) → all ≡ places (is_byte 0) bytes → TakesFirst all found left
-    → found ≡ option_map length (until_zero bytes)
-zero_taken bytes all found left are taken =
-    taken_first all found left taken ∙ ap first_of are
-    ∙ sym (IsFirstByte-value (is_byte 0) bytes (option_map length (until_zero bytes)) (first_byte bytes))
-
--- it is an index of the bytes
-pub zero_within : (bytes : List ℕ) (found : Option ℕ) → found ≡ option_map length (until_zero bytes) → IfSome found (λ n. n < length bytes)
-zero_within bytes found is = rw is (is_index (option_map length (until_zero bytes)) (first_byte bytes))
-  where
-    is_index : (place : Option ℕ) → IsFirstByte (is_byte 0) bytes place → IfSome place (λ n. n < length bytes)
-    is_index None nowhere = tt
-    is_index (Some k) first = first.0.high
+pub ruleset zeros = (zero_found, zero_within)

@@ -178,6 +178,7 @@ impl<'a> Marker<'a> {
     }
 
     // The mark behind the string whose pointer stands at `at`.
+    #[inline(always)]
     fn text(&self, at: usize, mark: usize) -> Option<usize>
         requires fits { at + self.now.layout.pointer ≤ length self.now.bytes }
         requires mark_in { mark ≤ length self.now.bytes }

@@ -8,16 +8,33 @@ ghost use Rattle.evp_format.specs.WellLaid.{IsWellLaid};
 
 use evp_base::{Kind, get_number};
 use evp_format::Format;
-use memchr::memchr_iter;
+use evp_wide::zero_at as first_zero;
 
-// The number that stands at `at`.
-pub(crate) fn number_at(format: &Format, bytes: &[u8], at: usize, kind: Kind, size: u32) -> i128
+// The number that stands at `at`, of a size that the compiler knows.
+#[inline(always)]
+fn number_sized(format: &Format, bytes: &[u8], at: usize, kind: Kind, size: u32) -> i128
     requires allowed { IsTrue (is_size_of kind size) }
     requires inside { at + size ≤ length bytes.now }
     ensures value { result ≡ number format.now.order kind (bytes_at at size bytes.now) }
     ensures in_range { InRange kind size result }
 {
     get_number(&bytes[at..at + size as usize], format.order(), kind, size)
+}
+
+// The number that stands at `at`.
+#[inline(always)]
+pub(crate) fn number_at(format: &Format, bytes: &[u8], at: usize, kind: Kind, size: u32) -> i128
+    requires allowed { IsTrue (is_size_of kind size) }
+    requires inside { at + size ≤ length bytes.now }
+    ensures value { result ≡ number format.now.order kind (bytes_at at size bytes.now) }
+    ensures in_range { InRange kind size result }
+{
+    match size {
+        1 => number_sized(format, bytes, at, kind, 1),
+        2 => number_sized(format, bytes, at, kind, 2),
+        4 => number_sized(format, bytes, at, kind, 4),
+        _ => number_sized(format, bytes, at, kind, 8),
+    }
 }
 
 // The pointer that stands at `at`.
@@ -30,11 +47,12 @@ pub(crate) fn pointer_at(format: &Format, bytes: &[u8], at: usize) -> usize
     number_at(format, bytes, at, Kind::Unsigned, size) as usize
 }
 
-// How many bytes stand before the first zero byte, where there is one. The iterator looks near
-// first, since most texts are short.
+// How many bytes stand before the first zero byte, where there is one.
+#[inline(always)]
+#[tactic(auto, using(crate::proofs::Zeros::zeros))]
 pub(crate) fn zero_at(bytes: &[u8]) -> Option<usize>
     ensures value { result ≡ option_map length (until_zero bytes.now) }
     ensures within { IfSome result (λ n. n < length bytes.now) }
 {
-    memchr_iter(0, bytes).next()
+    first_zero(bytes)
 }

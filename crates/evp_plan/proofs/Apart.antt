@@ -60,8 +60,8 @@ each_over from at stride t width (suc n) m place upper cells out long fits apart
     (λ k below. let same = length-painted_at from at t (overlaid place upper cells) out in let more = room (suc k) (omega (arith, below)) in
     omega (arith, same, more))
 
-pub next_each : (from : List ℕ) (at stride t width n k : ℕ) (gathers : List Gather) (gather : Gather) (out out' : List ℕ) → k < length gathers
-    → gather ≡ get_or gathers k gather
+pub next_each : (from : List ℕ) (at stride t width n k : ℕ) (gathers : List Gather) (gather : Gather) (out out' : List ℕ)
+    → k < length gathers → gather ≡ get_or gathers k gather
     → out' ≡ painted_each from at stride (t + gather.to) width n (gather_cells gather) out
     → gathered_each from at stride t width n (drop (k + 1) gathers) out' ≡ gathered_each from at stride t width n (drop k gathers) out
 next_each from at stride t width n k gathers gather out out' below is made =

@@ -61,9 +61,10 @@ bytes_next offset k cells made is pushed =
     pushed ∙ ap (λ (l : List Cell). l ++ Byte (offset + k) ∷ []) is ∙ sym (bytes_from-push offset k)
     ∙ ap (bytes_from offset) (sym (add-one k))
 
-get_or-blend_cells : (signed : Bool) (at : ℕ) (places keeps constants : List ℕ) (k p q r : ℕ) (d : Cell) → k < length places → length keeps ≡ length places
-    → length constants ≡ length places
-    → get_or (blend_cells signed at places keeps constants) k d ≡ blend_cell signed at (get_or places k p) (get_or keeps k q) (get_or constants k r)
+get_or-blend_cells : (signed : Bool) (at : ℕ) (places keeps constants : List ℕ) (k p q r : ℕ) (d : Cell)
+    → k < length places → length keeps ≡ length places → length constants ≡ length places
+    → get_or (blend_cells signed at places keeps constants) k d
+    ≡ blend_cell signed at (get_or places k p) (get_or keeps k q) (get_or constants k r)
 get_or-blend_cells signed at [] keeps constants k p q r d below long long' = absurd (omega arith)
 get_or-blend_cells signed at (place ∷ places) [] constants k p q r d below long long' = absurd (omega (arith, long))
 get_or-blend_cells signed at (place ∷ places) (keep ∷ keeps) [] k p q r d below long long' = absurd (omega (arith, long'))
@@ -71,8 +72,8 @@ get_or-blend_cells signed at (place ∷ places) (keep ∷ keeps) (constant ∷ c
 get_or-blend_cells signed at (place ∷ places) (keep ∷ keeps) (constant ∷ constants) (suc k) p q r d below long long' =
     get_or-blend_cells signed at places keeps constants k p q r d (omega (arith, below)) (omega (arith, long)) (omega (arith, long'))
 
-pub blend_next : (signed : Bool) (at k p q r : ℕ) (places keeps constants : List ℕ) (cells made : List Cell) (cell : Cell) → k < 16 → length places ≡ 16
-    → length keeps ≡ 16 → length constants ≡ 16
+pub blend_next : (signed : Bool) (at k p q r : ℕ) (places keeps constants : List ℕ) (cells made : List Cell) (cell : Cell)
+    → k < 16 → length places ≡ 16 → length keeps ≡ 16 → length constants ≡ 16
     → cells ≡ take k (blend_cells signed at places keeps constants) → cell
     ≡ blend_cell signed at (get_or places k p) (get_or keeps k q) (get_or constants k r) → made ≡ cells ++ cell ∷ []
     → made ≡ take (k + 1) (blend_cells signed at places keeps constants)
@@ -85,8 +86,8 @@ blend_next signed at k p q r places keeps constants cells made cell below long l
     (long'' ∙ sym long)))
     ∙ sym (take_more all k Keep (omega (arith, below, whole)))
 
-pub blend_end : (signed : Bool) (at k : ℕ) (places keeps constants : List ℕ) (cells : List Cell) → 16 ≤ k → length places ≡ 16 → length keeps ≡ 16
-    → length constants ≡ 16
+pub blend_end : (signed : Bool) (at k : ℕ) (places keeps constants : List ℕ) (cells : List Cell)
+    → 16 ≤ k → length places ≡ 16 → length keeps ≡ 16 → length constants ≡ 16
     → cells ≡ take k (blend_cells signed at places keeps constants) → cells ≡ blend_cells signed at places keeps constants
 blend_end signed at k places keeps constants cells past long long' long'' is =
     let all = blend_cells signed at places keeps constants in

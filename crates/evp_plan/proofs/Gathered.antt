@@ -49,7 +49,8 @@ abbrev blended : Bool → List ℕ → ℕ → ℕ → ℕ → ℕ → ℕ
 blended signed window place keep constant old = bit_or (bit_or (read_as signed (picked window place)) (bit_and old keep)) constant
 
 byte_is : (signed : Bool) (from : List ℕ) (at offset place keep constant old : ℕ) → old < 256 → is_clean_byte place keep constant ≡ true
-    → blended signed (drop (at + offset) from) place keep constant old ≡ cell_value from at (blend_cell signed offset place keep constant) old
+    → blended signed (drop (at + offset) from) place keep constant old
+    ≡ cell_value from at (blend_cell signed offset place keep constant) old
 byte_is signed from at offset place keep constant old below clean =
     let window = drop (at + offset) from in
     let read = read_as signed (picked window place) in
@@ -147,8 +148,8 @@ gather_is signed from at offset (suc to) places keeps constants (byte ∷ out) a
     ap (λ (n : ℕ). byte
     ∷ (take to out ++ (with_constant (with_kept (lanes signed places (drop (at + offset) from)) keeps (drop to out)) constants
     ++ drop n (byte ∷ out)))) next
-    ∙ ap (λ (l : List ℕ). byte ∷ l) (gather_is signed from at offset to places keeps constants out (λ k d below. are (suc k) d (omega arith))
-    clean long long' long'' (omega (arith, room)))
+    ∙ ap (λ (l : List ℕ). byte ∷ l) (gather_is signed from at offset to places keeps constants out
+    (λ k d below. are (suc k) d (omega arith)) clean long long' long'' (omega (arith, room)))
 
 -- ---- gathers one after another
 
@@ -157,7 +158,8 @@ length-gathers_over [] cells = refl
 length-gathers_over (gather ∷ gathers) cells =
     length-gathers_over gathers (overlaid gather.to (gather_cells gather) cells) ∙ length-overlaid gather.to (gather_cells gather) cells
 
-pub length-blend_cells : (signed : Bool) (offset : ℕ) (places keeps constants : List ℕ) → length keeps ≡ length places → length constants ≡ length places
+pub length-blend_cells : (signed : Bool) (offset : ℕ) (places keeps constants : List ℕ)
+    → length keeps ≡ length places → length constants ≡ length places
     → length (blend_cells signed offset places keeps constants) ≡ length places
 length-blend_cells signed offset [] keeps constants long long' = refl
 length-blend_cells signed offset (place ∷ places) [] constants long long' = absurd (omega (arith, long))

@@ -4,12 +4,16 @@ mod Arrays
 mod Conversions
 mod Defaults
 mod Each
+mod ElementsAgree
+mod FieldsInside
 mod Examples
 mod Known
 mod Meaning
+mod NoClash
 pub mod Programs
 mod Readiness
 mod Sent
+mod SingleNumbers
 mod Sounds
 mod Tables
 pub mod FittingWords
@@ -23,5 +27,6 @@ pub mod Painted
 mod WordLists
 pub mod Compiled
 mod QuietExamples
+mod WordExamples
 pub mod QuietLists
 pub mod QuietSteps

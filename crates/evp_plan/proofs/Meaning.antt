@@ -23,8 +23,10 @@ use Rattle.evp_plan.specs.Program.{Program}
 use Rattle.evp_plan.specs.Ready.{IsReady}
 use Rattle.evp_plan.specs.Sound.{IsSound}
 use Rattle.evp_plan.proofs.Agreeing.{Agrees}
-use Rattle.evp_plan.proofs.Conversions.{branches_in, clash_of_trees, Agrees-tree}
-use Rattle.evp_plan.proofs.Readiness.{IsInside, inside_laid, ready_tree}
+use Rattle.evp_plan.proofs.Conversions.{Agrees-tree}
+use Rattle.evp_plan.proofs.NoClash.{branches_in, clash_of_trees}
+use Rattle.evp_plan.proofs.FieldsInside.{IsInside, inside_laid}
+use Rattle.evp_plan.proofs.Readiness.{ready_tree}
 use Rattle.evp_plan.proofs.Sent.{RecordSent, then_read}
 use Rattle.evp_plan.proofs.Sounds.{sound_tree}
 

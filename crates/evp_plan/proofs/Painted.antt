@@ -168,7 +168,8 @@ length-steps_over order from_order (step ∷ steps) cells =
 
 -- moves over zeros make a whole record
 pub whole_over : (from_order order : Order) (steps : List Step) (moves : Moving) (count : ℕ)
-    → AreMovesOver from_order order steps (replicate count (Constant 0)) moves → end_of steps ≤ count → IsWholeOf from_order order steps moves
+    → AreMovesOver from_order order steps (replicate count (Constant 0)) moves → end_of steps ≤ count
+    → IsWholeOf from_order order steps moves
 whole_over from_order order steps moves count over fits =
     let long : length moves.cells ≡ count = ap length over.cells
     ∙ length-steps_over order from_order steps (replicate count (Constant 0)) ∙ length-replicate {A = Cell} count (Constant 0) in

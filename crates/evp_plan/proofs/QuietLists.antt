@@ -61,8 +61,8 @@ quiet_at table k m ordered below long =
     ∙ sym (ap is_quiet (program_at-steps table m steps ordered (found_in table m inside)))
 
 -- one list more
-pub tests_next : (table : List (List Step)) (k : ℕ) (entry steps more : List Step) (tests before pushed : List (List Step)) → IsOrdered table
-    → k < length table → entry ≡ get_or table k entry → steps ≡ entry → before ≡ tests → more ≡ tests_behind before steps
+pub tests_next : (table : List (List Step)) (k : ℕ) (entry steps more : List Step) (tests before pushed : List (List Step))
+    → IsOrdered table → k < length table → entry ≡ get_or table k entry → steps ≡ entry → before ≡ tests → more ≡ tests_behind before steps
     → tests ≡ map (tests_of (programs table)) (take k table) → pushed ≡ tests ++ more ∷ []
     → pushed ≡ map (tests_of (programs table)) (take (k + 1) table)
 tests_next table k entry steps more tests before pushed ordered below is are same more_is so_far pushed_is =

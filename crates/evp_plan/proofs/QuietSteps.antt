@@ -44,7 +44,8 @@ length_cut bytes at size within =
     let taken = length-take size (drop at bytes) in
     omega (arith, left, taken)
 
-signed_covered : (size : ℕ) (from : Kind) (width : ℕ) (n : ℤ) → covers Int size from width ≡ true → InRange from width n → InRange Int size n
+signed_covered : (size : ℕ) (from : Kind) (width : ℕ) (n : ℤ) → covers Int size from width ≡ true → InRange from width n
+    → InRange Int size n
 signed_covered size Int width n wide inside =
     let less : width ≤ size = grind (arith, nat_tests, wide) in
     let powers = pow-le-pow_right {n = 2} (omega arith) (let bits : 8 * width - 1 ≤ 8 * size - 1 = omega (arith, less) in bits) in
@@ -87,7 +88,8 @@ unsigned_covered size Boolean width n wide inside =
     (let bits : 8 ≤ 8 * size = omega (arith, less) in bits) in
     (inside.0, omega (arith, ints, inside.1, powers))
 
-char_covered : (size : ℕ) (from : Kind) (width : ℕ) (n : ℤ) → covers Char size from width ≡ true → InRange from width n → InRange Char size n
+char_covered : (size : ℕ) (from : Kind) (width : ℕ) (n : ℤ) → covers Char size from width ≡ true → InRange from width n
+    → InRange Char size n
 char_covered size Int width n wide inside = cc
 char_covered size Enumeration width n wide inside = cc
 char_covered size Unsigned width n wide inside =
@@ -133,7 +135,8 @@ quiet_fits : (image : Image) (at size : ℕ) (op : Op) (quiet : Bool) (Inside : 
     → IsOpThere image at op Inside → AreBytes image.bytes → op_fits image at size op ≡ true
 quiet_fits image at size (Number kind (Standing source)) quiet Inside is there are =
     quiet_number image kind size source.kind source.size (at + source.offset) is there.0 there.1 are
-quiet_fits image at size (Number kind (Stated n)) quiet Inside is there are = (and_parts (is_size_of kind size) (is_in_range kind size n) is).1
+quiet_fits image at size (Number kind (Stated n)) quiet Inside is there are =
+    (and_parts (is_size_of kind size) (is_in_range kind size n) is).1
 quiet_fits image at size (Text from) quiet Inside is there are = refl
 quiet_fits image at size (Nest offset) quiet Inside is there are = refl
 quiet_fits image at size (Each count elements) quiet Inside is there are = refl
@@ -201,7 +204,8 @@ quiet_op limit image size (Many origin elements) quiet inside Inside place at af
 
 -- ---- records
 
-skipped : (test : Bool) (place : List PlaceStep) (next : Unit {0} → Made (Unit {0})) → test ≡ true → unless_unfit (not test) place next ≡ next tt
+skipped : (test : Bool) (place : List PlaceStep) (next : Unit {0} → Made (Unit {0})) → test ≡ true
+    → unless_unfit (not test) place next ≡ next tt
 skipped true place next is = refl
 skipped false place next is = cc
 

@@ -1,5 +1,6 @@
 -- The words of quick tests, by their bytes.
-use Rattle.std.proofs.Common.{◌≡◌, ℕ, ◌+◌, IsTrue, Bool, true, false, List, [], ◌∷◌, ◌++◌, length, get_or, take, Option, Some, None, refl, sym, ap, ◌∙◌, subst, ◌<◌}
+use Rattle.std.proofs.Common.{◌≡◌, ℕ, ◌+◌, IsTrue, Bool, true, false, List, [], ◌∷◌, ◌++◌, length, get_or, take}
+use Rattle.std.proofs.Common.{Option, Some, None, refl, sym, ap, ◌∙◌, subst, ◌<◌}
 use Rattle.std.specs.List.{All}
 use Rattle.std.specs.Prelude.{IfSome, nat_eq, ◌||◌, if◌then◌else◌}
 use Rattle.std.proofs.lemmas.Bool.{eqb-true}
@@ -30,8 +31,8 @@ pub words_more : (size : ℕ) (tests : List Quick) (k : ℕ) (test : Quick) (wor
     → k < length tests → test ≡ get_or tests k test → pushed ≡ words ++ with_words size test.words []
     → pushed ≡ words_in size (take (k + 1) tests)
 words_more size tests k test words pushed so_far below own is =
-    let more : take (k + 1) tests ≡ take k tests ++ test ∷ [] = take_more tests k test below ∙ ap (λ (t : Quick). take k tests ++ t ∷ []) (sym own)
-    in
+    let more : take (k + 1) tests ≡ take k tests ++ test ∷ [] =
+    take_more tests k test below ∙ ap (λ (t : Quick). take k tests ++ t ∷ []) (sym own) in
     is ∙ ap (λ (w : List Words). w ++ with_words size test.words []) so_far
     ∙ sym (words_in-append size (take k tests) (test ∷ [])) ∙ sym (ap (words_in size) more)
 

@@ -7,10 +7,8 @@ ghost use Rattle.evp_plan.specs.Counts.{raised};
 ghost use Rattle.evp_plan.specs.Faults.{IsBuildFault};
 ghost use Rattle.evp_plan.specs.Planned.{StandsFor};
 
-use crate::moves::{all_moves, whole_of};
-use crate::quiet::tests_in;
 use crate::table::table_of;
-use crate::{BuildFault, Builds, Plan, QuickTests};
+use crate::{BuildFault, Builds, Plan};
 use evp_base::Memory;
 use evp_format::{Format, clash_of};
 use std::alloc::Global;
@@ -48,11 +46,6 @@ fn plan_of(alloc: Global, from: &Format, to: &Format) -> Result<Plan, Memory>
     let _sender = from.types();
     let _receiver = to.types();
     let table = table_of(alloc, from, to)?;
-    let moves = all_moves(alloc, to.order(), from.order(), table.as_slice())?;
-    let last = table[table.len() - 1].as_slice();
-    let whole = whole_of(alloc, to.order(), from.order(), last, to.root().length)?;
-    let tests = tests_in(alloc, table.as_slice())?;
-    let quick = QuickTests::of_steps(alloc, tests[tests.len() - 1].as_slice())?;
     let alike = *from == *to;
-    Ok(Plan::new(to, table, alike, from.order(), moves, whole, tests, quick))
+    Plan::new(alloc, from.order(), to, table, alike)
 }

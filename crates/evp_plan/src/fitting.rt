@@ -2,27 +2,15 @@
 
 ghost use Rattle.std.specs.Prelude.{◌≡◌, ◌≤◌, ◌-◌, ◌-ℤ◌, ◌*◌, ◌^◌, ◌++◌, [], pos, IsTrue, IfOk, IfSome};
 ghost use Rattle.std.specs.List.{All};
-ghost use Rattle.evp_base.specs.Numbers.{is_width, is_size_of, least, greatest};
+ghost use Rattle.evp_base.specs.Numbers.{is_size_of, least, greatest};
 ghost use Rattle.evp_plan.specs.Quicks.{steps_in, with_words, words_in, IsFit};
 ghost use Rattle.evp_plan.specs.Words.{AreWordsOf, AreWordsFor};
 
 use crate::quiet::is_size_of;
 use crate::{Op, Origin, Quick, Source, Step, Words};
 use evp_base::{Kind, Memory};
+use evp_wide::half_of;
 use std::alloc::Global;
-
-// 2^(8 size - 1).
-fn half_of(size: u32) -> u64
-    requires { IsTrue (is_width size) }
-    ensures { result ≡ 2 ^ (8 * size - 1) }
-{
-    match size {
-        1 => 1 << 7,
-        2 => 1 << 15,
-        4 => 1 << 31,
-        _ => 1 << 63,
-    }
-}
 
 // The greatest number of that kind and size.
 fn greatest(kind: Kind, size: u32) -> u64
@@ -30,8 +18,8 @@ fn greatest(kind: Kind, size: u32) -> u64
     ensures { pos result ≡ greatest kind size }
 {
     match kind {
-        Kind::Int | Kind::Enumeration => half_of(size) - 1,
-        Kind::Unsigned => half_of(size) - 1 + half_of(size),
+        Kind::Int | Kind::Enumeration => half_of(size as usize) - 1,
+        Kind::Unsigned => half_of(size as usize) - 1 + half_of(size as usize),
         Kind::Char => 255,
         Kind::Boolean => 1,
     }
@@ -44,7 +32,7 @@ fn below(kind: Kind, size: u32) -> u64
     ensures half { result ≤ 2 ^ (8 * size - 1) }
 {
     match kind {
-        Kind::Int | Kind::Enumeration => half_of(size),
+        Kind::Int | Kind::Enumeration => half_of(size as usize),
         Kind::Unsigned | Kind::Char | Kind::Boolean => 0,
     }
 }
@@ -65,7 +53,7 @@ fn words_of(kind: Kind, size: u32, source: &Source) -> Words
 {
     let top = lesser(greatest(kind, size), greatest(source.kind, source.size));
     let below = lesser(below(kind, size), below(source.kind, source.size));
-    let half = half_of(source.size);
+    let half = half_of(source.size as usize);
     Words {
         offset: source.offset,
         size: source.size,

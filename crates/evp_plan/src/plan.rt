@@ -1,14 +1,17 @@
 //! Plans.
 
-ghost use Rattle.std.specs.Prelude.{◌≡◌, ◌<◌, ◌≤◌, [], length, get_or, IfSome};
-ghost use Rattle.evp_plan.specs.Cells.{IsMovesOf, AreMovesOf, IsWholeOf};
+ghost use Rattle.std.specs.Prelude.{◌≡◌, ◌<◌, ◌≤◌, [], length, get_or, IfOk, IfSome};
+ghost use Rattle.evp_plan.specs.Cells.{IsMovesOf, IsWholeOf};
 ghost use Rattle.evp_plan.specs.Program.{IsOrdered, programs, last_steps};
-ghost use Rattle.evp_plan.specs.Quiet.{tests_of, tests_in};
+ghost use Rattle.evp_plan.specs.Quiet.{tests_of};
 ghost use Rattle.evp_plan.specs.Quicks.{steps_in};
 
+use crate::moves::{all_moves, whole_of};
+use crate::quiet::tests_in;
 use crate::{Moves, QuickTests, Step, Steps};
-use evp_base::Order;
+use evp_base::{Memory, Order};
 use evp_format::Format;
+use std::alloc::Global;
 use std::marker::Model;
 
 /// The steps that make a record of one format from a record of another.
@@ -56,32 +59,40 @@ impl Model for Plan {
         × (steps_in p.quick ≡ last_steps p.tests.items))))) };
 }
 
+// The last list of steps.
+fn last_list(table: &[Steps]) -> &[Step]
+    requires { 1 ≤ length table.now }
+    ensures { result.now ≡ last_steps table.now }
+{
+    table[table.len() - 1].as_slice()
+}
+
 impl Plan {
     ghost use Rattle.evp_plan.specs.Planned.{planned_of};
 
-    // The plan for a receiver of this format.
+    // The plan for a sender of this order and a receiver of this format, by its table.
     pub(crate) fn new(
+        alloc: Global,
+        sender: Order,
         to: &Format,
         table: Vec<Steps>,
         alike: bool,
-        sender: Order,
-        moves: Vec<Option<Moves>>,
-        whole: Option<Moves>,
-        tests: Vec<Steps>,
-        quick: QuickTests,
-    ) -> Self
+    ) -> Result<Self, Memory>
         requires ordered { IsOrdered table.items }
         requires some { 1 ≤ length table.items }
-        requires made { AreMovesOf sender to.now.order table.items moves.items }
-        requires all { IfSome whole (IsWholeOf sender to.now.order (last_steps table.items)) }
-        requires tests { tests.items ≡ tests_in table.items }
-        requires quick { steps_in quick ≡ last_steps tests.items }
-        ensures { result ≡ planned_of to.now table.items alike }
+        ensures { IfOk result (λ plan. plan ≡ planned_of to.now table.items alike) }
     {
-        Plan {
-            order: to.order(),
+        let order = to.order();
+        let fixed = to.root().length;
+        let last = last_list(table.as_slice());
+        let moves = all_moves(alloc, order, sender, table.as_slice())?;
+        let whole = whole_of(alloc, order, sender, last, fixed)?;
+        let tests = tests_in(alloc, table.as_slice())?;
+        let quick = QuickTests::of_steps(alloc, last_list(tests.as_slice()))?;
+        Ok(Plan {
+            order,
             pointer: to.pointer(),
-            fixed: to.root().length,
+            fixed,
             table,
             alike,
             sender,
@@ -89,7 +100,7 @@ impl Plan {
             whole,
             tests,
             quick,
-        }
+        })
     }
 
     /// The order of the receiver's bytes.

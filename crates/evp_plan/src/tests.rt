@@ -12,10 +12,10 @@ const TEXT: &[u8] = b"NDF1\0\x04\0\x01\x01p\0\0\0\x04\0\x01\x01a\x06string\0\0\0
 const NUMBER: &[u8] = b"NDF1\0\x04\0\x01\x01p\0\0\0\x04\0\x01\x01a\x07integer\0\0\0\x04\0\0\0\0";
 
 // Big endian, pointers of 8 bytes, `q` of 16 bytes with `y integer` of 4 bytes, whose default is
-// -1,
-// and `x integer` of 8 bytes at 8.
-const DEFAULTS: &[u8] =
-    b"NDF2\x01\x08\0\x01\x01q\0\0\0\x10\0\x02\x01y\x07integer\0\0\0\x04\0\0\0\0\xff\xff\xff\xff\xff\xff\xff\xff\xff\xff\xff\xff\xff\xff\xff\xff\x01x\x07integer\0\0\0\x08\0\0\0\x08\0\0\0\0\0\0\0\0\0\0\0\0\0\0\0\0";
+// -1, and `x integer` of 8 bytes at 8.
+const DEFAULTS: &[u8] = b"NDF2\x01\x08\0\x01\x01q\0\0\0\x10\0\x02\x01y\x07integer\0\0\0\x04\0\0\0\0\
+\xff\xff\xff\xff\xff\xff\xff\xff\xff\xff\xff\xff\xff\xff\xff\xff\
+\x01x\x07integer\0\0\0\x08\0\0\0\x08\0\0\0\0\0\0\0\0\0\0\0\0\0\0\0\0";
 
 // The plan for two descriptions, and how many were built.
 fn planned(rt: &HostRuntime, from: &[u8], to: &[u8]) -> (Option<Plan>, bool, u64) {

@@ -1,4 +1,5 @@
-use Rattle.std.proofs.Common.{sym, subst, refl}
+use Rattle.std.proofs.Common.{◌≡◌, sym, subst, refl}
+use Rattle.std.proofs.lemmas.Result.{IfOk-weaker}
 use Rattle.evp_plan.specs.Planned.{Planned, planned_of, StandsFor}
 use Rattle.evp_plan.proofs.Meaning.{stands}
 use Rattle.evp_plan.proofs.Tables.{whole_compiled, some_lists}
@@ -17,6 +18,7 @@ returns c =
     let compiled = whole_compiled from to table c.types-sender.ensures.laid c.types-receiver.ensures.laid c.in_ok-table.ensures.table
     c.in_ok-table.ensures.whole in
     let P : Planned → Type 0 = λ p. StandsFor p from to in
-    subst P (sym c.new.ensures)
-    (stands plan from to c.types-sender.ensures.laid c.types-receiver.ensures.laid c.requires c.eq-alike.ensures.same
-    (record { machine = refl; fixed = refl; program = compiled }))
+    let meant : StandsFor plan from to =
+    stands plan from to c.types-sender.ensures.laid c.types-receiver.ensures.laid c.requires c.eq-alike.ensures.same
+    (record { machine = refl; fixed = refl; program = compiled }) in
+    IfOk-weaker c.new.result (λ p. p ≡ plan) P (λ p is. subst P (sym is) meant) c.new.ensures

@@ -7,7 +7,7 @@ pub returns : goal.returns
 returns c =
     let source = c.args.source.now in
     let wide = width source.size (size_width source.kind source.size c.requires.allowed) in
-    let half = c.half_of-half.ensures in
+    let half = c.half_of-half.ensures.value in
     let doubled = wide.half in
     let some = wide.least in
     let less = c.lesser-below.ensures.first in

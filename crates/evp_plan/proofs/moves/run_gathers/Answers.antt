@@ -14,6 +14,7 @@ loop-gather-preserved c =
       next_gather c.args.from.now c.args.at c.args.t k c.args.gathers.now g c.loop-gather.out c.run_gather.new.out c.loop-gather-test.true
           c.gather-item.is
           (one_gather c.args.from.now c.args.at c.args.t g c.loop-gather.out c.run_gather.new.out
-          (bytes_are c.loop-gather.out c.loop-gather.invariant.1) (omega (arith, fits.1, to, same)) c.run_gather.ensures) ∙ c.loop-gather.invariant.0,
+          (bytes_are c.loop-gather.out c.loop-gather.invariant.1) (omega (arith, fits.1, to, same)) c.run_gather.ensures)
+          ∙ c.loop-gather.invariant.0,
       λ k. omega (arith, c.type_inv.out k),
     )

@@ -43,7 +43,8 @@ run_gathers_each-requires-then-to-self-clause-room c =
     (sym (ap (λ (m : Moving). m.cells) c.self.view_is)) in
     let same = c.run_gathers_each.auto.out in
     all_room c.args.n m.length m.reach to.first to.apart (length c.run_gathers_each.new.out) c.as_slice-then-to-self.result.now
-    m.gathers.mixed.items c.as_slice-then-to-self.ensures.value c.self.invariant.second (λ k below. let room = c.requires.room k below in omega (arith, long, room, same))
+    m.gathers.mixed.items c.as_slice-then-to-self.ensures.value c.self.invariant.second
+    (λ k below. let room = c.requires.room k below in omega (arith, long, room, same))
 
 pub returns-then-to-self : goal.returns-then-to-self
 returns-then-to-self c =

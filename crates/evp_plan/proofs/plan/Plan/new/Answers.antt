@@ -1,14 +1,38 @@
-use Rattle.std.proofs.Common.{◌∙◌, ap, ℕ}
+use Rattle.std.proofs.Common.{◌∙◌, ap, ℕ, List, IfSome, subst, rules}
 use Rattle.evp_base.specs.declared.order.Order.{Order}
+use Rattle.evp_plan.specs.declared.step.Step.{Step}
+use Rattle.evp_plan.specs.Cells.{IsWholeOf}
 use Rattle.evp_plan.specs.Planned.{Planned}
+use Rattle.evp_plan.specs.Program.{last_steps}
 use Rattle.evp_plan.proofs.Tables.{root_length}
 use Rattle.evp_plan.proofs.plan.Plan.new.Goals as goal
 
 pub returns : goal.returns
 returns c =
     let to = c.args.to.now in
+    let root = c.root.result.now in
     let with_parts : Order → ℕ → ℕ → Planned = λ order pointer fixed. record
     { order = order; pointer = pointer; fixed = fixed; table = c.args.table.items; alike = c.args.alike } in
-    ap (λ (o : Order). with_parts o c.pointer.result c.root.result.now.length) c.order.ensures
-    ∙ ap (λ (p : ℕ). with_parts to.order p c.root.result.now.length) c.pointer.ensures
-    ∙ ap (λ (n : ℕ). with_parts to.order to.pointer n) (root_length to c.root.result.now c.root.ensures.laid c.root.ensures.value)
+    ap (λ (o : Order). with_parts o c.pointer.result root.length) c.order-order.ensures
+    ∙ ap (λ (p : ℕ). with_parts to.order p root.length) c.pointer.ensures
+    ∙ ap (λ (n : ℕ). with_parts to.order to.pointer n) (root_length to root c.root.ensures.laid c.root.ensures.value)
+
+pub invariant_of-result : goal.invariant_of-result
+invariant_of-result c =
+    let last = c.last_list-last.ensures ∙ ap last_steps c.as_slice.ensures.value in
+    let Whole : List Step → Type 0 = λ steps. IfSome c.in_ok-whole.whole (IsWholeOf c.args.sender c.order-order.result steps) in (
+      c.requires.ordered,
+      (
+        c.requires.some,
+        (
+          search rules,
+          (
+            subst Whole last c.in_ok-whole.ensures,
+            (
+              search rules,
+              c.in_ok-quick.ensures ∙ c.last_list.ensures ∙ ap last_steps c.as_slice-4.ensures.value,
+            ),
+          ),
+        ),
+      ),
+    )

@@ -15,7 +15,8 @@ all_there-ones-requires-clause-inside c =
 
 pub all_there-twos-requires-clause-sized : goal.all_there-twos-requires-clause-sized
 all_there-twos-requires-clause-sized c =
-    slice_sized 2 c.self.inside.list.items c.self.inside.twos.items c.as_slice-2.result.now c.as_slice-2.ensures.value c.self.invariant.1.1.0
+    slice_sized 2 c.self.inside.list.items c.self.inside.twos.items c.as_slice-2.result.now c.as_slice-2.ensures.value
+    c.self.invariant.1.1.0
 
 pub all_there-twos-requires-clause-inside : goal.all_there-twos-requires-clause-inside
 all_there-twos-requires-clause-inside c =
@@ -24,7 +25,8 @@ all_there-twos-requires-clause-inside c =
 
 pub all_there-fours-requires-clause-sized : goal.all_there-fours-requires-clause-sized
 all_there-fours-requires-clause-sized c =
-    slice_sized 4 c.self.inside.list.items c.self.inside.fours.items c.as_slice-3.result.now c.as_slice-3.ensures.value c.self.invariant.1.1.1.0
+    slice_sized 4 c.self.inside.list.items c.self.inside.fours.items c.as_slice-3.result.now c.as_slice-3.ensures.value
+    c.self.invariant.1.1.1.0
 
 pub all_there-fours-requires-clause-inside : goal.all_there-fours-requires-clause-inside
 all_there-fours-requires-clause-inside c =
@@ -33,7 +35,8 @@ all_there-fours-requires-clause-inside c =
 
 pub all_there-requires-clause-sized : goal.all_there-requires-clause-sized
 all_there-requires-clause-sized c =
-    slice_sized 8 c.self.inside.list.items c.self.inside.eights.items c.as_slice-4.result.now c.as_slice-4.ensures.value c.self.invariant.1.1.1.1.0
+    slice_sized 8 c.self.inside.list.items c.self.inside.eights.items c.as_slice-4.result.now c.as_slice-4.ensures.value
+    c.self.invariant.1.1.1.1.0
 
 pub all_there-requires-clause-inside : goal.all_there-requires-clause-inside
 all_there-requires-clause-inside c =

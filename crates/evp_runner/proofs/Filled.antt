@@ -40,10 +40,12 @@ array_filled plan image step elements count n width from bytes old new n_is begi
     let all : new ≡ made = put ∙ put_whole 0 made old refl (long ∙ whole) in
     let zeros_long = length-replicate {A = ℕ} (length new) 0 in
     let new_long = ap length all in
-    let here : new ≡ put_at base made zeros = all ∙ sym (put_whole base made zeros (omega (arith, begins)) (sym new_long ∙ sym zeros_long)) in
+    let here : new ≡ put_at base made zeros =
+    all ∙ sym (put_whole base made zeros (omega (arith, begins)) (sym new_long ∙ sym zeros_long)) in
     let Put : ℕ → Type 0 = λ m. IsPut (list_moved plan image step elements 0 base m size) size zeros new in
     subst Put n_is
-    (numbers_moved plan image step elements 0 base n size width from bytes zeros new s (omega (arith, begins, long, new_long, zeros_long)) here))
+    (numbers_moved plan image step elements 0 base n size width from bytes zeros new s
+    (omega (arith, begins, long, new_long, zeros_long)) here))
 
 -- the record of one step
 record_filled : (plan : Planned) (image : Image) (number : ℕ) (steps : List Step) (step : Step) (new : List ℕ) → IsOrdered plan.table

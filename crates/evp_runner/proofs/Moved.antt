@@ -24,11 +24,12 @@ use Rattle.evp_plan.specs.Standing.{origin_number, run_count}
 use Rattle.evp_format.specs.Zero.{as_count}
 use Rattle.evp_plan.proofs.Programs.{program_at-steps}
 use Rattle.evp_runner.specs.Pieces.{IsPut}
-use Rattle.evp_runner.specs.StepIn.{inside, CanMove, CanMoveStep, CanMoveList, CanMovePart, AreFew, IsElementThere, BeginsThere, IsCountThere}
-use Rattle.evp_runner.specs.StepIn.{IsSourceThere}
+use Rattle.evp_runner.specs.StepIn.{inside, CanMove, CanMoveStep, CanMoveList, CanMovePart, AreFew, IsElementThere, BeginsThere}
+use Rattle.evp_runner.specs.StepIn.{IsCountThere, IsSourceThere}
 use Rattle.evp_runner.proofs.Measured.{rest_of, no_rest}
 
-pub put_pieces-append : (first rest : List Piece) (bytes : List ℕ) → put_pieces (first ++ rest) bytes ≡ put_pieces rest (put_pieces first bytes)
+pub put_pieces-append : (first rest : List Piece) (bytes : List ℕ)
+    → put_pieces (first ++ rest) bytes ≡ put_pieces rest (put_pieces first bytes)
 put_pieces-append [] rest bytes = refl
 put_pieces-append (piece ∷ first) rest bytes = put_pieces-append first rest (put_at piece.at piece.bytes bytes)
 
@@ -359,5 +360,6 @@ many_put plan image step elements at t w n size q end after out out' out'' is so
     (record {
       sized = here.sized;
       put = here.put
-          ∙ ap (put_pieces (list_moved plan image step elements at (next_block size) n (next_block size + n * step.task.size)).all) pointer_is;
+          ∙ ap (put_pieces (list_moved plan image step elements at (next_block size) n (next_block size + n * step.task.size)).all)
+          pointer_is;
     })

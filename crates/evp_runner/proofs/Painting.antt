@@ -117,5 +117,6 @@ all_put plan image moves out new p are long painted_is =
     record {
       sized = refl;
       put = painted_is ∙ made
-          ∙ ap (λ (q : Program). put_pieces (moved image (machine_in plan) q 0 0 plan.fixed).all (replicate (length out) 0)) (sym p.program);
+          ∙ ap (λ (q : Program). put_pieces (moved image (machine_in plan) q 0 0 plan.fixed).all (replicate (length out) 0))
+          (sym p.program);
     }

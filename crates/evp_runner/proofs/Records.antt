@@ -1,5 +1,6 @@
 -- Records of an array, each made by the same gathers.
-use Rattle.std.proofs.Common.{◌≡◌, ℕ, zero, suc, ◌+◌, ◌*◌, ◌<◌, ◌≤◌, List, [], length, get_or, Option, Some, refl, sym, ap, ◌∙◌, subst, arith}
+use Rattle.std.proofs.Common.{◌≡◌, ℕ, zero, suc, ◌+◌, ◌*◌, ◌<◌, ◌≤◌, List, [], length, get_or, Option, Some}
+use Rattle.std.proofs.Common.{refl, sym, ap, ◌∙◌, subst, arith}
 use Rattle.std.specs.Prelude.{slice_get}
 use Rattle.evp_base.proofs.Digits.{AreBytes}
 use Rattle.evp_format.specs.Packing.{Pieces, put_pieces}
@@ -38,7 +39,8 @@ next_place k size = omega arith
 
 painted_pieces : (from : List ℕ) (first stride base width : ℕ) (cells : List Cell) (one : ℕ → ℕ → Pieces) (total long n k after : ℕ)
     (out : List ℕ) → Paints_each from first stride base width cells one total long → k + n ≤ total → length out ≡ long
-    → (painted_each from (first + k * stride) stride (base + k * width) width n cells out ≡ put_pieces (moved_elements one n k after).all out)
+    → (painted_each from (first + k * stride) stride (base + k * width) width n cells out
+    ≡ put_pieces (moved_elements one n k after).all out)
     × (after ≡ (moved_elements one n k after).size)
 painted_pieces from first stride base width cells one total long zero k after out each few whole = (refl, refl)
 painted_pieces from first stride base width cells one total long (suc n) k after out each few whole =
@@ -48,8 +50,8 @@ painted_pieces from first stride base width cells one total long (suc n) k after
     let widths = next_place k width in
     let next : first + k * stride + stride ≡ first + suc k * stride = omega (arith, strides) in
     let next' : base + k * width + width ≡ base + suc k * width = omega (arith, widths) in
-    let rest = painted_pieces from first stride base width cells one total long n (suc k) (one k after).size painted each (omega (arith, few))
-    (length-painted_at from (first + k * stride) (base + k * width) cells out ∙ whole) in (
+    let rest = painted_pieces from first stride base width cells one total long n (suc k) (one k after).size painted each
+    (omega (arith, few)) (length-painted_at from (first + k * stride) (base + k * width) cells out ∙ whole) in (
       ap (λ (a : ℕ). painted_each from a stride (base + k * width + width) width n cells painted) next
           ∙ ap (λ (b : ℕ). painted_each from (first + suc k * stride) stride b width n cells painted) next' ∙ rest.0
           ∙ ap (put_pieces (moved_elements one n (suc k) (one k after).size).all) here.0
@@ -138,7 +140,8 @@ records_put plan image step elements run moves at base n size out out' r low run
     moved image machine (inner_program (programs plan.table) inner) (element_place image at run k) (base + k * width) later in
     let each : Paints_each image.bytes first run.stride base width moves.cells (one_by (Some r.number)) n (length out) =
     λ k later out'' below long.
-    (let here = can_record plan image step elements run moves at base n k (length out'') r run_is can few (omega (arith, room, long)) below in
+    (let here = can_record plan image step elements run moves at base n k (length out'') r run_is can few
+    (omega (arith, room, long)) below in
     let p = paints plan image r.number (get_or plan.table r.number []) moves (element_place image at run k) (base + k * width)
     (length out'') r.ordered (inner_below plan.table r.number low) r.are here in
     let put = paints_put plan image r.number moves (element_place image at run k) (base + k * width) later out''
@@ -155,8 +158,8 @@ records_put plan image step elements run moves at base n size out out' r low run
     let inside_by : Option ℕ → ℕ → ℕ → ℕ → Pieces = λ inner s' t' later.
     moved image machine (inner_program (programs plan.table) inner) s' t' later in
     let Put : Part → Option Run → Option ℕ → Type 0 = λ p o inner.
-    IsPut (moved_elements (λ k later. moved_part image machine width p (inside_by inner) (source_place image at o k) (base + k * width) later)
-    n 0 size) size out out' in
+    IsPut (moved_elements (λ k later. moved_part image machine width p (inside_by inner) (source_place image at o k)
+    (base + k * width) later) n 0 size) size out out' in
     let records : Put part.Record (Some run) (Some r.number) = record { sized = all.1; put = painted_is ∙ painted } in
     subst (λ (p : Part). Put p elements.run step.inner) (sym r.part_is)
     (subst (λ (o : Option Run). Put part.Record o step.inner) (sym run_is)

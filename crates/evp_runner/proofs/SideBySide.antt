@@ -6,7 +6,8 @@ use Rattle.std.specs.Prelude.{⊤}
 use Rattle.std.proofs.Math.Nat.{mul-div_cancel}
 use Rattle.std.proofs.Math.Seq.{take-append_seam, drop-append-add}
 use Rattle.std.proofs.lemmas.Bool.Decides.{nat_tests}
-use Rattle.std.proofs.lemmas.List.{length-drop, length-take, length-append, drop-drop, drop-take, take-take, take-append-drop, append_assoc, append-nil}
+use Rattle.std.proofs.lemmas.List.{length-drop, length-take, length-append, drop-drop, drop-take, take-take}
+use Rattle.std.proofs.lemmas.List.{take-append-drop, append_assoc, append-nil}
 use Rattle.evp_base.specs.Numbers.{number, digits, is_size_of, is_width}
 use Rattle.evp_base.specs.declared.kind.Kind.{Kind}
 use Rattle.evp_base.specs.declared.kind.Kind.TheVariants.{Int, Unsigned, Char, Boolean, Enumeration}
@@ -91,7 +92,8 @@ length-groups f size width (suc count) bytes long =
 -- ---- pieces
 
 abbrev number_piece : (List ℕ → List ℕ) → ℕ → ℕ → ℕ → ℕ → ℕ → List ℕ → ℕ → ℕ → Pieces
-number_piece f base size width start stride bytes k later = one_piece (base + k * size) (f (bytes_at (start + k * stride) width bytes)) later
+number_piece f base size width start stride bytes k later =
+    one_piece (base + k * size) (f (bytes_at (start + k * stride) width bytes)) later
 
 numbers_size : (f : List ℕ → List ℕ) (base size width start stride : ℕ) (bytes : List ℕ) (n k after : ℕ)
     → after ≡ (moved_elements (λ i later. number_piece f base size width start stride bytes i later) n k after).size

@@ -20,6 +20,7 @@ use evp_plan::{Elements, Moves, Part, Run, Series, Step};
 use evp_wide::rewrite;
 
 // How many elements are written: as many as are wanted, or those of a shorter array.
+#[inline(always)]
 pub(crate) fn moved_count(work: &Move, at: usize, n: u128, elements: &Elements) -> u128
     requires at_inside { at ≤ length work.now.sender.bytes.now }
     requires there { IsCountThere (image_in work.now.sender) at elements.now.run }
@@ -51,6 +52,7 @@ fn part_of(bytes: &[u8], start: usize, count: usize) -> &[u8]
 }
 
 // The n numbers of the sender's array, where they stand side by side.
+#[inline(always)]
 pub(crate) fn side_by_side<'a>(
     work: &Move<'a>,
     elements: &Elements,
@@ -79,6 +81,7 @@ pub(crate) fn side_by_side<'a>(
 }
 
 /// The n numbers as numbers of this size, from `base` on.
+#[inline(always)]
 pub(crate) fn put_numbers(
     work: &Move,
     size: u32,

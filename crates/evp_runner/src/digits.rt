@@ -1,7 +1,7 @@
 //! Bytes and digits put on the output.
 
 ghost use Rattle.std.specs.Prelude.{◌≡◌, ◌+◌, ◌*◌, ◌-◌, ◌%◌, ◌^◌, ◌<◌, ◌≤◌, ◌<ℤ◌, ◌-ℤ◌, ◌+ℤ◌};
-ghost use Rattle.std.specs.Prelude.{pos, length, IsTrue};
+ghost use Rattle.std.specs.Prelude.{pos, length, take, IsTrue};
 ghost use Rattle.evp_base.specs.Numbers.{digits, residue, is_width};
 ghost use Rattle.evp_format.specs.Bytes.{put_at};
 ghost use Rattle.evp_plan.specs.declared.step.Origin.TheVariants.{Standing};
@@ -12,14 +12,16 @@ ghost use Rattle.evp_runner.specs.StepIn.{image_in};
 use crate::moving::Move;
 use evp_base::{Order, put_number};
 use evp_plan::{Origin, Source};
-use evp_wide::rewrite_number;
+use evp_wide::{put_front, rewrite_number};
 
-/// These bytes in the place of those from t on.
-pub(crate) fn put_bytes(out: &mut [u8], t: usize, bytes: &[u8])
-    requires { t + length bytes.now ≤ length out.old }
-    ensures { out.new ≡ put_at t bytes.now out.old }
+/// The first so many of these bytes in the place of those from t on.
+#[inline(always)]
+pub(crate) fn put_first(out: &mut [u8], t: usize, bytes: &[u8], count: usize)
+    requires front { count ≤ length bytes.now }
+    requires room { t + count ≤ length out.old }
+    ensures { out.new ≡ put_at t (take count bytes.now) out.old }
 {
-    out[t..t + bytes.len()].copy_from_slice(bytes);
+    put_front(out, t, bytes, count);
 }
 
 // 2^(8 size).

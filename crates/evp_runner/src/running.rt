@@ -21,6 +21,7 @@ use crate::sender::{Sender, are_bytes};
 use evp_format::Place;
 use evp_plan::Plan;
 use evp_record::Checked;
+use evp_wide::clear;
 
 /// The packed size of a record in the receiver's format, in bytes, or the first fault with its
 /// place there: `Unfit` and `Large` exactly as the conversion has them. The plan is one for records
@@ -192,26 +193,18 @@ fn run_steps(plan: &Plan, item: Checked, out: &mut [u8], is_zero: bool)
     if fill_numbers(&work, count - 1, out) {
         return;
     }
-    clear(out, is_zero);
+    clear_out(out, is_zero);
     let fixed = plan.fixed() as usize;
     let _end = move_record(&work, count - 1, 0, out, 0, fixed);
 }
 
 // Zeros all of it, where it isn't zero yet.
-fn clear(out: &mut [u8], is_zero: bool)
+#[inline(always)]
+fn clear_out(out: &mut [u8], is_zero: bool)
     requires { IsTrue is_zero → out.old ≡ replicate (length out.old) 0 }
     ensures { out.new ≡ replicate (length out.old) 0 }
 {
     if !is_zero {
-        put_zeros(out);
-    }
-}
-
-// Zeros all of it.
-fn put_zeros(out: &mut [u8])
-    ensures { out.new ≡ replicate (length out.old) 0 }
-{
-    for byte in out.iter_mut() {
-        *byte = 0;
+        clear(out);
     }
 }

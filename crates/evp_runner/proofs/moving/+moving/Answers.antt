@@ -12,8 +12,9 @@ use Rattle.evp_plan.specs.Standing.{origin_number}
 use Rattle.evp_runner.specs.Pieces.{IsPut}
 use Rattle.evp_runner.specs.StepIn.{image_in, inside, AreRecordMoves}
 use Rattle.evp_runner.proofs.Measured.{found_steps, at_index, own_index, some_bytes}
-use Rattle.evp_runner.proofs.Moved.{begins_there, rest_moved, step_fits, step_next, moving_end, steps_end, record_moved, can_move_each, element_one}
-use Rattle.evp_runner.proofs.Moved.{one_grows, element_fits, element_moved, elements_end, can_move_part, few_of, most_of, element_room}
+use Rattle.evp_runner.proofs.Moved.{begins_there, rest_moved, step_fits, step_next, moving_end, steps_end, record_moved, can_move_each}
+use Rattle.evp_runner.proofs.Moved.{element_one, one_grows, element_fits, element_moved, elements_end, can_move_part, few_of, most_of}
+use Rattle.evp_runner.proofs.Moved.{element_room}
 use Rattle.evp_runner.proofs.Moved.{list_moved, many_fits, many_put}
 use Rattle.evp_runner.proofs.SideBySide.{numbers_there, out_width, side_long, numbers_moved}
 use Rattle.evp_runner.proofs.Records.{run_begins, records_reach, records_room, records_put}

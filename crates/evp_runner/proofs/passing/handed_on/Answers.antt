@@ -17,5 +17,5 @@ returns c =
     let known =
     typed_by c.args.item c.args.bytes.now c.format.result.now (bytes_are c.args.bytes.now (λ k. omega (arith, c.type_inv.bytes k)))
     c.requires.own c.format.ensures.kept c.format.ensures.value c.types-types.ensures.laid in
-    passed_packed c.args.plan.now c.args.item c.args.size (Owned c.in_ok-packed_apart.field-0) tt (sym c.alike.ensures ∙ c.if-alike.false) known
-    c.in_ok-packed_apart.ensures
+    passed_packed c.args.plan.now c.args.item c.args.size (Owned c.in_ok-packed_apart.field-0) tt
+    (sym c.alike.ensures ∙ c.if-alike.false) known c.in_ok-packed_apart.ensures

@@ -24,7 +24,8 @@ returns-then-length-out c =
     c.sender_of-sender.ensures c.in-Some.ensures.ordered c.in-Some.ensures.some c.in-Some.ensures.moves in
     let long = c.length.ensures in
     let same = c.if-length-out.true in
-    let put = all_put plan image moves out c.run.new.out known c.sender_of-sender.result.are (omega (arith, long, same)) c.run.ensures.made in
+    let put = all_put plan image moves out c.run.new.out known c.sender_of-sender.result.are (omega (arith, long, same))
+    c.run.ensures.made in
     converted_whole plan c.args.item c.requires.plan_from.to image (length plan.table - 1) plan.fixed (length out) _
     (replicate (length out) 0) c.run.new.out c.requires.plan_from.stands c.bytes-held.ensures.kept c.requires.size
     c.sender_of-sender.ensures refl refl refl put

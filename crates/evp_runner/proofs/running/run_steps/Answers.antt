@@ -27,26 +27,26 @@ pub move_record-end-requires-clause-can : goal.move_record-end-requires-clause-c
 move_record-end-requires-clause-can c =
     let same : length c.fill_numbers.new.out ≡ length c.args.out.now = omega (arith, c.fill_numbers.auto.out) in
     can_move_whole c.args.plan.now c.args.item c.requires.plan_from.to (image_in c.sender_of-sender.result)
-    (length c.table-lists.result.now - 1) (length c.args.out.now) (length c.clear.new.out) c.requires.plan_from.stands
+    (length c.table-lists.result.now - 1) (length c.args.out.now) (length c.clear_out.new.out) c.requires.plan_from.stands
     c.bytes-held.ensures.kept
     c.requires.size c.sender_of-sender.ensures (ap (λ (n : ℕ). n - 1) (ap length c.table-lists.ensures.value))
-    (ap length c.clear.ensures ∙ length-replicate {A = ℕ} (length c.fill_numbers.new.out) 0 ∙ same)
+    (ap length c.clear_out.ensures ∙ length-replicate {A = ℕ} (length c.fill_numbers.new.out) 0 ∙ same)
 
 pub move_record-end-requires-clause-fits : goal.move_record-end-requires-clause-fits
 move_record-end-requires-clause-fits c =
     let same : length c.fill_numbers.new.out ≡ length c.args.out.now = omega (arith, c.fill_numbers.auto.out) in
     fits_whole c.args.plan.now c.args.item c.requires.plan_from.to (image_in c.sender_of-sender.result)
-    (length c.table-lists.result.now - 1) c.fixed-fixed.result (length c.args.out.now) (length c.clear.new.out)
+    (length c.table-lists.result.now - 1) c.fixed-fixed.result (length c.args.out.now) (length c.clear_out.new.out)
     c.requires.plan_from.stands
     c.bytes-held.ensures.kept c.requires.size c.sender_of-sender.ensures (ap (λ (n : ℕ). n - 1) (ap length c.table-lists.ensures.value))
     c.fixed-fixed.ensures
-    (ap length c.clear.ensures ∙ length-replicate {A = ℕ} (length c.fill_numbers.new.out) 0 ∙ same)
+    (ap length c.clear_out.ensures ∙ length-replicate {A = ℕ} (length c.fill_numbers.new.out) 0 ∙ same)
 
 pub returns : goal.returns
 returns c =
     let same : length c.fill_numbers.new.out ≡ length c.args.out.now = omega (arith, c.fill_numbers.auto.out) in
     converted_whole c.args.plan.now c.args.item c.requires.plan_from.to (image_in c.sender_of-sender.result)
-    (length c.table-lists.result.now - 1) c.fixed-fixed.result (length c.args.out.now) c.move_record-end.result c.clear.new.out
+    (length c.table-lists.result.now - 1) c.fixed-fixed.result (length c.args.out.now) c.move_record-end.result c.clear_out.new.out
     c.move_record-end.new.out c.requires.plan_from.stands c.bytes-held.ensures.kept c.requires.size c.sender_of-sender.ensures
     (ap (λ (n : ℕ). n - 1) (ap length c.table-lists.ensures.value)) c.fixed-fixed.ensures
-    (c.clear.ensures ∙ ap (λ (n : ℕ). replicate {A = ℕ} n 0) same) c.move_record-end.ensures
+    (c.clear_out.ensures ∙ ap (λ (n : ℕ). replicate {A = ℕ} n 0) same) c.move_record-end.ensures

@@ -5,5 +5,5 @@ use Rattle.evp_runner.proofs.running.tested_whole.Goals as goal
 
 pub quick_record-requires-clause-can : goal.quick_record-requires-clause-can
 quick_record-requires-clause-can c =
-    can_whole c.args.plan.now c.args.item.now c.requires.plan_from.to (image_in c.sender_of-sender.result) (length c.args.plan.now.table - 1)
-    0 c.requires.plan_from.stands c.bytes-held.ensures.kept c.sender_of-sender.ensures refl refl
+    can_whole c.args.plan.now c.args.item.now c.requires.plan_from.to (image_in c.sender_of-sender.result)
+    (length c.args.plan.now.table - 1) 0 c.requires.plan_from.stands c.bytes-held.ensures.kept c.sender_of-sender.ensures refl refl

@@ -2,7 +2,7 @@ use Rattle.std.proofs.Common.{◌≡◌, ◌+◌, ◌-◌, ◌∙◌, refl, rule
 use Rattle.std.proofs.lemmas.Int.{to_z-of_z}
 use mir.Val.{SFits}
 use mir.Syntax.{w128}
-use Rattle.evp_runner.proofs.reading.number_there.Goals as goal
+use Rattle.evp_runner.proofs.reading.number_sized.Goals as goal
 
 pub returns-clause-value : goal.returns-clause-value
 returns-clause-value c =

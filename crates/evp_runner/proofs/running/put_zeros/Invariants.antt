@@ -1,6 +1,0 @@
-use Rattle.std.proofs.Common.{◌≡◌, ◌++◌, drop}
-use Rattle.std.specs.Prelude.{replicate}
-use Rattle.evp_runner.proofs.running.put_zeros.Given as goal
-
-abbrev pub invariant-loop-byte : goal.invariant-loop-byte
-invariant-loop-byte l = l.out ≡ replicate l.byte-index 0 ++ drop l.byte-index l.initial.out

@@ -55,8 +55,11 @@ pub(crate) fn with_files(
     })
 }
 
-// The layouts of the declared formats.
-fn layouts(alloc: Global, known: Vec<KnownFormat>) -> Result<Vec<Format>, AllocError>
+/// The layouts of declared formats, in their order. The formats' identifiers are let go of.
+///
+/// # Errors
+/// Where no memory is found.
+pub fn layouts(alloc: Global, known: Vec<KnownFormat>) -> Result<Vec<Format>, AllocError>
     ensures { IfOk result (λ formats. formats.items ≡ layouts_of known.items) }
 {
     let mut formats = Vec::with_capacity(alloc, known.len())?;
@@ -149,8 +152,12 @@ fn number_of(formats: &mut Vec<Format>, format: FileFormat) -> Result<u16, Memor
     }
 }
 
-// The records of a file whose formats have these numbers.
-fn records(
+/// The records of a file, as those of a job that knows the file's formats by these numbers. The
+/// bytes of each are moved.
+///
+/// # Errors
+/// `Memory` where none is found.
+pub fn records(
     alloc: Global,
     numbers: &[u16],
     items: Vec<FileItem>,

@@ -26,6 +26,7 @@ mod targets;
 mod types;
 
 pub use fault::JobFault;
+pub use files::{layouts, records};
 pub use fill::fill_job;
 pub use job::{ReadJob, read_job};
 pub use job_text::JobText;

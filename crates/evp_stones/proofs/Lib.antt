@@ -35,6 +35,7 @@ pub mod TotalSums
 pub mod CountedOnce
 pub mod JobTotals
 pub mod MadeJobs
+pub mod FourSources
 mod BenchExamples
 pub mod Pieced
 pub mod RoundsBehind

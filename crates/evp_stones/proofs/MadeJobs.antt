@@ -10,22 +10,31 @@ use Rattle.evp_file.specs.declared.file.RecordFile.{RecordFile}
 use Rattle.evp_file.specs.Reading.{file_of}
 use Rattle.evp_gen.specs.Document.{job_value}
 use Rattle.evp_gen.specs.Laws.{SentIsRead, SentIsShort}
-use Rattle.evp_gen.specs.Senders.{all_sent, sent_bytes, sent_file}
+use Rattle.evp_format.specs.Layout.{Layout}
+use Rattle.evp_gen.specs.Senders.{all_sent, sent_bytes, sent_file, sent_layout}
 use Rattle.evp_job.specs.declared.fault.JobFault.{JobFault}
 use Rattle.evp_job.specs.declared.job.ReadJob.TheVariants.{NotJson, Job, Memory}
 use Rattle.evp_job.specs.declared.job_text.JobText.{JobText}
-use Rattle.evp_job.specs.Filling.{bare_job, filled}
+use Rattle.evp_job.specs.Filling.{agree, all_layouts, AreFilesOf, bare_job, filled, job_with_files}
 use Rattle.evp_job.specs.Job.{IsStatedBy, StatesJob}
 use Rattle.evp_job.specs.SourceView.{source_of}
+use Rattle.evp_job.specs.Stated.{IsStated, layouts_of}
+use Rattle.evp_job.specs.Steps.{◌>>=◌}
 use Rattle.evp_job.specs.TextShape.{TextShape}
 use Rattle.evp_job.specs.TextView.{text_of}
+use Rattle.evp_job.proofs.FilledJobs.{filled_is_job}
 use Rattle.evp_profile.specs.declared.profile.Profile.{Profile}
 use Rattle.evp_profile.specs.declared.profile.Profile.TheVariants.{Le64, Le32, Be64, Be32}
+use Rattle.evp_stone.specs.declared.source.Source.{Source}
+use Rattle.evp_stone.specs.Job.{IsJob}
+use Rattle.evp_stone.specs.JobShape.{JobShape}
 use Rattle.serde_json.specs.Data.{Data}
 use Rattle.serde_json.specs.Read.{read}
 use Rattle.evp_stones.specs.Accepted.{AreRead, IsAccepted, IsReadable}
 use Rattle.evp_stones.specs.BenchJob.{bench_job}
 use Rattle.evp_stones.specs.BenchLaws.{bench_files, FillsBenchJob, StatesBenchJob}
+use Rattle.evp_stones.specs.declared.bench.made_job.MadeSources.{MadeSources}
+use Rattle.evp_stones.specs.MadeFiles.{AreMade, IsOneFile, joined}
 
 -- what was made is one thing
 one_ok : {X F : Type 0} (r : Result X F) (a b : X) → r ≡ Ok a → r ≡ Ok b → a ≡ b
@@ -78,18 +87,24 @@ module _ (is_read : SentIsRead) (is_short : SentIsShort) (n : ℕ) (few : n ≤ 
     short = let short = is_short profile s n sender few in omega (arith, short);
   }
 
-  pub all_readable : All (IsReadable known limit) (all_sent n)
-  all_readable =
-      All-cons (IsReadable known limit) _ (sent_bytes Le32 1 n ∷ sent_bytes Be64 2 n ∷ sent_bytes Be32 3 n ∷ [])
-      (readable Le64 0 (omega arith))
-      (All-cons (IsReadable known limit) _ (sent_bytes Be64 2 n ∷ sent_bytes Be32 3 n ∷ []) (readable Le32 1 (omega arith))
-      (All-cons (IsReadable known limit) _ (sent_bytes Be32 3 n ∷ []) (readable Be64 2 (omega arith))
-      (All-cons (IsReadable known limit) _ [] (readable Be32 3 (omega arith)) (All-nil (IsReadable known limit)))))
-
   the_file : (profile : Profile) (s : ℕ) (file : RecordFile) → s < 4 → file_of known limit (sent_bytes profile s n) ≡ Ok file
       → file ≡ sent_file profile s n
   the_file profile s file sender is =
       one_ok (file_of known limit (sent_bytes profile s n)) file (sent_file profile s n) is (read_as profile s sender)
+
+  one_file : (profile : Profile) (s : ℕ) → s < 4 → IsOneFile known limit (sent_bytes profile s n)
+  one_file profile s sender = (
+    readable profile s sender,
+    λ file is. (sent_layout profile, ap (λ (f : RecordFile). f.formats) (the_file profile s file sender is)),
+  )
+
+  pub all_one_file : All (IsOneFile known limit) (all_sent n)
+  all_one_file =
+      All-cons (IsOneFile known limit) _ (sent_bytes Le32 1 n ∷ sent_bytes Be64 2 n ∷ sent_bytes Be32 3 n ∷ [])
+      (one_file Le64 0 (omega arith))
+      (All-cons (IsOneFile known limit) _ (sent_bytes Be64 2 n ∷ sent_bytes Be32 3 n ∷ []) (one_file Le32 1 (omega arith))
+      (All-cons (IsOneFile known limit) _ (sent_bytes Be32 3 n ∷ []) (one_file Be64 2 (omega arith))
+      (All-cons (IsOneFile known limit) _ [] (one_file Be32 3 (omega arith)) (All-nil (IsOneFile known limit)))))
 
   pub files_are : (files : List RecordFile) → AreRead known limit (all_sent n) files → files ≡ bench_files n
   files_are [] are = absurd are
@@ -107,11 +122,33 @@ module _ (is_read : SentIsRead) (is_short : SentIsShort) (n : ℕ) (few : n ≤ 
 
 -- ---- the job
 
-pub filled_there : (n : ℕ) (text : JobText) (files : List RecordFile) → FillsBenchJob n → text_of text ≡ bench_job n → files ≡ bench_files n
-    → IsOk (filled (bare_job text) files)
-filled_there n text files law same are = rw are (subst IsOk (sym (law text same)) refl)
+pub source_for_each : (n : ℕ) (text : JobText) → text_of text ≡ bench_job n → length text.sources.items ≡ 4
+source_for_each n text same = sym (length-map text.sources.items source_of) ∙ ap (λ (t : TextShape). length t.sources) same
 
 pub file_for_each : (n : ℕ) (text : JobText) (files : List RecordFile) → text_of text ≡ bench_job n → files ≡ bench_files n
     → length files ≡ length text.sources.items
-file_for_each n text files same are =
-    ap length are ∙ sym (ap (λ (t : TextShape). length t.sources) same) ∙ length-map text.sources.items source_of
+file_for_each n text files same are = ap length are ∙ sym (source_for_each n text same)
+
+pub fills_there : (n : ℕ) (text : JobText) (files : List RecordFile) → FillsBenchJob n → text_of text ≡ bench_job n → files ≡ bench_files n
+    → filled (bare_job text) files ≡ Ok (job_with_files (bare_job text) files)
+fills_there n text files law same are =
+    subst (λ all. filled (bare_job text) all ≡ Ok (job_with_files (bare_job text) all)) (sym are) (law text same)
+
+-- what was filled had no fault
+agreed : (passed : Result (Unit {0}) JobFault) (job : JobShape) → (passed >>= λ _. Ok job) ≡ Ok job → passed ≡ Ok tt
+agreed (Ok x) job is = refl
+agreed (Err fault) job is = absurd (cc)
+
+pub filled_job : (text : JobText) (files : List RecordFile) → IsStated text → AreFilesOf text files
+    → filled (bare_job text) files ≡ Ok (job_with_files (bare_job text) files) → IsJob (job_with_files (bare_job text) files)
+unfolding filled
+filled_job text files stated read fills =
+    filled_is_job text files stated read (agreed (agree (bare_job text) files) (job_with_files (bare_job text) files) fills)
+
+-- the document's job with these sources is the one that is filled with their files
+pub joined_is : (text : JobText) (records : ℕ) (made : MadeSources) (all : AreMade text records made)
+    → joined text made ≡ job_with_files (bare_job text) all.files
+joined_is text records made all =
+    let layouts = layouts_of text.formats.items in
+    ap (λ (own : List Layout). record (bare_job text) { formats = layouts ++ own; sources = made.sources.items }) all.formats
+    ∙ ap (λ (sources : List Source). record (bare_job text) { formats = all_layouts layouts all.files; sources = sources }) all.sources

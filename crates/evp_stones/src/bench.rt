@@ -12,6 +12,7 @@ mod hashing;
 mod kept_text;
 mod laws;
 mod made_job;
+mod made_source;
 mod summary;
 mod totals;
 

@@ -64,7 +64,7 @@ impl Underway {
             ≡ self ++ round_lines round (map (told_of carried.now) carried.now.routes)) }
     {
         let Underway { hashed, texts } = self;
-        let (texts, hashed) = beside(rt, alloc, carried, round, threads, hashed, texts);
+        let (hashed, texts) = beside(rt, alloc, carried, round, threads, hashed, texts);
         Ok(Underway {
             hashed,
             texts: texts?,
@@ -111,8 +111,8 @@ fn digest_alone(carried: &Carried) -> [u8; 32]
     }
 }
 
-// The texts of a round's routes, and what was hashed with these texts and the round's line behind
-// it.
+// What was hashed with these texts and the round's line behind it, and the texts of the round's
+// routes. This thread begins all others: those that a new thread begins often wait for it.
 fn beside<R: Threads + Sync>(
     rt: &R,
     alloc: Global,
@@ -121,22 +121,22 @@ fn beside<R: Threads + Sync>(
     threads: usize,
     hashed: Hashing,
     texts: Vec<Option<Vec<u8>>>,
-) -> (Result<Vec<Option<Vec<u8>>>, Memory>, Hashing)
+) -> (Hashing, Result<Vec<Option<Vec<u8>>>, Memory>)
     requires { 0 < threads }
-    ensures texts { IfOk result.0 (λ next. flat_map text_of next.items
+    ensures hashed { result.0 ≡ hashed ++ flat_map text_of texts.items ++ round_line round }
+    ensures texts { IfOk result.1 (λ next. flat_map text_of next.items
         ≡ routes_lines carried.now round carried.now.routes) }
-    ensures hashed { result.1 ≡ hashed ++ flat_map text_of texts.items ++ round_line round }
 {
     thread::join(
         rt,
+        move || -> Hashing
+            ensures { result ≡ hashed ++ flat_map text_of texts.items ++ round_line round }
+        { with_line(with_texts(hashed, &texts), round) },
         || -> Result<Vec<Option<Vec<u8>>>, Memory>
             requires { IsSync R.row × (0 < threads) }
             ensures { IfOk result (λ next. flat_map text_of next.items
                 ≡ routes_lines carried.entry.now round carried.entry.now.routes) }
         { round_texts(rt, alloc, carried, round, threads) },
-        move || -> Hashing
-            ensures { result ≡ hashed ++ flat_map text_of texts.items ++ round_line round }
-        { with_line(with_texts(hashed, &texts), round) },
     )
 }
 

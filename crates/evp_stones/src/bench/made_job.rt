@@ -1,26 +1,31 @@
 //! The large job that is made of a number.
-ghost use Rattle.std.specs.Prelude.{◌≡◌, ◌≢◌, ◌+◌, ◌≤◌, ◌<◌, ◌^◌, All, IfOk, IsOk, Ok, length};
+ghost use Rattle.std.specs.Prelude.{◌≡◌, ◌≤◌, ◌<◌, ◌+◌, IfOk, Ok};
 ghost use Rattle.std.specs.Thread.{IsSync};
-ghost use Rattle.evp_file.specs.Reading.{file_of};
-ghost use Rattle.evp_file.specs.Whole.{IsWhole};
-ghost use Rattle.evp_job.specs.Filling.{AreFilesOf, bare_job, filled};
 ghost use Rattle.evp_job.specs.Job.{StatesJob};
-ghost use Rattle.evp_job.specs.Stated.{IsStated};
+ghost use Rattle.evp_job.specs.Stated.{IsStated, layouts_of};
 ghost use Rattle.evp_job.specs.TextView.{text_of};
+ghost use Rattle.evp_stone.specs.Job.{IsJob};
+ghost use Rattle.evp_stones.specs.Accepted.{IsAccepted};
 ghost use Rattle.evp_stones.specs.Bench.{IsMadeJob};
-ghost use Rattle.evp_gen.specs.Senders.{all_sent};
-ghost use Rattle.evp_stones.specs.Accepted.{IsAccepted, IsReadable, AreRead};
-ghost use Rattle.evp_stones.specs.MadeFiles.{IsMakeable, IsMade};
+ghost use Rattle.evp_stones.specs.MadeFiles.{AreMade, IsMade, IsMakeable, joined};
 
 use super::beside::both;
 use super::laws::each_bench_is_a_job;
+use super::made_source::{MadeSource, made_source};
 use evp_base::Memory;
-use evp_file::{FileFault, RecordFile, read_file};
-use evp_gen::{make_file, make_job, sent_is_read, sent_is_short};
-use evp_job::{JobFault, JobText, ReadJob, fill_job, read_job};
-use evp_stone::Job;
+use evp_format::Format;
+use evp_gen::{make_job, sent_is_read, sent_is_short};
+use evp_job::{JobText, ReadJob, layouts, read_job};
+use evp_stone::{Job, JobParts, Source};
 use std::alloc::Global;
 use std::thread::Threads;
+
+/// All sources with the records of their files, and the formats that the files describe.
+#[derive(Drop)]
+struct MadeSources {
+    formats: Vec<Format>,
+    sources: Vec<Source>,
+}
 
 /// The job with so many records of each source: the one that the generator's document states, with
 /// the generator's files, which are made and read by so many threads at most. Nothing of it is
@@ -40,8 +45,8 @@ pub(super) fn made_job<R: Threads + Sync>(
     sent_is_short();
     let document = make_job(alloc, records)?;
     let text = stated(alloc, &document)?;
-    let files = made_files(rt, alloc, &text, records, threads)?;
-    fill(alloc, text, files)
+    let made = made_sources(rt, alloc, &text, records, threads)?;
+    filled(alloc, text, made)
 }
 
 // The job that these bytes state, which have no fault.
@@ -57,108 +62,96 @@ fn stated(alloc: Global, bytes: &[u8]) -> Result<JobText, Memory>
     }
 }
 
-// The generator's files, as they are read. Each is made and read in one thread, of which there are
-// four, two or one.
-fn made_files<R: Threads + Sync>(
+// The sources with the generator's files. Each file is made and read, and its records are made, in
+// one thread, of which there are four, two or one.
+fn made_sources<R: Threads + Sync>(
     rt: &R,
     alloc: Global,
     text: &JobText,
     records: u32,
     threads: u32,
-) -> Result<Vec<RecordFile>, Memory>
-    requires { IsMakeable text.now.formats.items text.now.limit records }
-    ensures read { IfOk result (λ files. AreRead text.now.formats.items text.now.limit
-        (all_sent records) files.items) }
-    ensures whole { IfOk result (λ files. All (IsWhole text.now.formats.items) files.items) }
+) -> Result<MadeSources, Memory>
+    requires { IsMakeable text.now records }
+    ensures { IfOk result (AreMade text.now records) }
 {
     let ((a, b), (c, d)) = both(
         rt,
         threads >= 2,
-        || -> (Result<RecordFile, Memory>, Result<RecordFile, Memory>)
-            requires { IsSync R.row × IsMakeable text.now.formats.items text.now.limit records }
-            ensures { IsMade text.entry.now.formats.items text.entry.now.limit records 0 result.0
-                × IsMade text.entry.now.formats.items text.entry.now.limit records 1 result.1 }
-        { two_files(rt, alloc, text, records, 0, threads) },
-        || -> (Result<RecordFile, Memory>, Result<RecordFile, Memory>)
-            requires { IsSync R.row × IsMakeable text.now.formats.items text.now.limit records }
-            ensures { IsMade text.entry.now.formats.items text.entry.now.limit records 2 result.0
-                × IsMade text.entry.now.formats.items text.entry.now.limit records 3 result.1 }
-        { two_files(rt, alloc, text, records, 2, threads) },
+        || -> (Result<MadeSource, Memory>, Result<MadeSource, Memory>)
+            requires { IsSync R.row × IsMakeable text.now records }
+            ensures { IsMade text.entry.now records 0 result.0
+                × IsMade text.entry.now records 1 result.1 }
+        { two_sources(rt, alloc, text, records, 0, threads) },
+        || -> (Result<MadeSource, Memory>, Result<MadeSource, Memory>)
+            requires { IsSync R.row × IsMakeable text.now records }
+            ensures { IsMade text.entry.now records 2 result.0
+                × IsMade text.entry.now records 3 result.1 }
+        { two_sources(rt, alloc, text, records, 2, threads) },
     );
-    let files = vec![in alloc; a?, b?, c?, d?]?;
-    Ok(files)
+    let (a, b, c, d) = (a?, b?, c?, d?);
+    let formats = vec![in alloc; a.format, b.format, c.format, d.format]?;
+    let sources = vec![in alloc; a.source, b.source, c.source, d.source]?;
+    Ok(MadeSources { formats, sources })
 }
 
-// The file of this number and the next one.
-fn two_files<R: Threads + Sync>(
+// The source of this number and the next one.
+fn two_sources<R: Threads + Sync>(
     rt: &R,
     alloc: Global,
     text: &JobText,
     records: u32,
     source: usize,
     threads: u32,
-) -> (Result<RecordFile, Memory>, Result<RecordFile, Memory>)
+) -> (Result<MadeSource, Memory>, Result<MadeSource, Memory>)
     requires source { source < 3 }
-    requires makeable { IsMakeable text.now.formats.items text.now.limit records }
-    ensures first { IsMade text.now.formats.items text.now.limit records source result.0 }
-    ensures second { IsMade text.now.formats.items text.now.limit records (source + 1) result.1 }
+    requires makeable { IsMakeable text.now records }
+    ensures first { IsMade text.now records source result.0 }
+    ensures second { IsMade text.now records (source + 1) result.1 }
 {
     both(
         rt,
         threads >= 4,
-        || -> Result<RecordFile, Memory>
-            requires { (source < 3) × IsMakeable text.now.formats.items text.now.limit records }
-            ensures { IsMade text.entry.now.formats.items text.entry.now.limit records source
-                result }
-        { made_file(alloc, text, records, source) },
-        || -> Result<RecordFile, Memory>
-            requires { (source < 3) × IsMakeable text.now.formats.items text.now.limit records }
-            ensures { IsMade text.entry.now.formats.items text.entry.now.limit records (source + 1)
-                result }
-        { made_file(alloc, text, records, source + 1) },
+        || -> Result<MadeSource, Memory>
+            requires { (source < 3) × IsMakeable text.now records }
+            ensures { IsMade text.entry.now records source result }
+        { made_source(alloc, text, records, source) },
+        || -> Result<MadeSource, Memory>
+            requires { (source < 3) × IsMakeable text.now records }
+            ensures { IsMade text.entry.now records (source + 1) result }
+        { made_source(alloc, text, records, source + 1) },
     )
 }
 
-// The file of this number.
-fn made_file(
-    alloc: Global,
-    text: &JobText,
-    records: u32,
-    source: usize,
-) -> Result<RecordFile, Memory>
-    requires source { source < 4 }
-    requires makeable { IsMakeable text.now.formats.items text.now.limit records }
-    ensures { IsMade text.now.formats.items text.now.limit records source result }
+// The job that the document states, with its sources' records and their formats.
+fn filled(alloc: Global, text: JobText, made: MadeSources) -> Result<Job, Memory>
+    requires { IsJob (joined text made) }
+    ensures { IfOk result (λ job. job ≡ joined text made) }
 {
-    let bytes = make_file(alloc, source, records)?;
-    read(alloc, text, bytes.as_slice())
-}
-
-// The record file of these bytes, which have no fault.
-fn read(alloc: Global, text: &JobText, bytes: &[u8]) -> Result<RecordFile, Memory>
-    requires formats { length text.now.formats.items ≤ 256 }
-    requires readable { IsReadable text.now.formats.items text.now.limit bytes.now }
-    ensures exact { IfOk result
-        (λ file. file_of text.now.formats.items text.now.limit bytes.now ≡ Ok file) }
-    ensures whole { IfOk result (IsWhole text.now.formats.items) }
-{
-    match read_file(alloc, bytes, &text.formats, text.limit) {
-        Ok(file) => Ok(file),
-        Err(FileFault::Memory) => Err(Memory),
-        Err(_) => unreachable!(),
-    }
-}
-
-// The job with its files, which are right for it.
-fn fill(alloc: Global, text: JobText, files: Vec<RecordFile>) -> Result<Job, Memory>
-    requires stated { IsStated text }
-    requires read { AreFilesOf text files.items }
-    requires right { IsOk (filled (bare_job text) files.items) }
-    ensures { IfOk result (λ job. filled (bare_job text) files.items ≡ Ok job) }
-{
-    match fill_job(alloc, text, files) {
-        Ok(job) => Ok(job),
-        Err(JobFault::Memory) => Err(Memory),
-        Err(_) => unreachable!(),
-    }
+    let JobText {
+        limit,
+        queue,
+        names: _,
+        formats,
+        sources: _,
+        stones,
+        rounds,
+        routes,
+    } = text;
+    let MadeSources {
+        formats: mut own,
+        sources,
+    } = made;
+    let declared = formats.len() as u16;
+    let mut formats = layouts(alloc, formats)?;
+    formats.append(&mut own)?;
+    Ok(Job::new(JobParts {
+        formats,
+        declared,
+        limit,
+        queue,
+        sources,
+        stones,
+        rounds,
+        routes,
+    }))
 }

@@ -12,8 +12,8 @@ returns g c =
     let before = c.self.inside.hashed ++ flat_map text_of c.self.inside.texts.items in
     let line = round_line round in
     let made = subst (λ r. IfOk r (λ next. flat_map text_of next.items ≡ routes_lines job round job.routes))
-    c.in_ok-texts.was c.beside-texts.ensures.texts in
-    ap (λ l. l ++ flat_map text_of c.in_ok-texts.field-0.items) c.beside-texts.ensures.hashed
+    c.in_ok-texts.was c.beside-hashed.ensures.texts in
+    ap (λ l. l ++ flat_map text_of c.in_ok-texts.field-0.items) c.beside-hashed.ensures.hashed
     ∙ ap (λ l. (before ++ line) ++ l) made
     ∙ append_assoc before line (routes_lines job round job.routes)
     ∙ ap (λ s. s ++ (line ++ routes_lines job round job.routes)) c.self.view_is

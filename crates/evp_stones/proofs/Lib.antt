@@ -37,5 +37,4 @@ pub mod JobTotals
 pub mod MadeJobs
 pub mod FourSources
 mod BenchExamples
-pub mod Pieced
 pub mod RoundsBehind

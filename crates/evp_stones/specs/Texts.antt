@@ -1,8 +1,7 @@
--- Texts that may be missing.
-use Rattle.std.specs.Prelude.{ℕ, List, [], Option, Some, None}
+-- Texts that are kept in memory.
+use Rattle.std.specs.Prelude.{ℕ, List}
 use Rattle.std.specs.Global.{Vec}
 
--- the bytes, or none where the text is missing
-abbrev pub text_of : Option (Vec ℕ) → List ℕ
-text_of None = []
-text_of (Some text) = text.items
+-- the bytes of a text
+abbrev pub text_of : Vec ℕ → List ℕ
+text_of text = text.items

@@ -13,6 +13,8 @@ mod kept_text;
 mod laws;
 mod made_job;
 mod made_source;
+mod room;
+mod round_texts;
 mod summary;
 mod totals;
 

@@ -11,7 +11,7 @@ use evp_crew::{Gate, carry};
 use evp_depot::{PutFault, Sink};
 use evp_graph::Route;
 use evp_report::{write_report, write_routes};
-use evp_stone::{Account, Job};
+use evp_stone::{Account, Job, RoundAccount};
 use std::alloc::Global;
 use std::marker::Model;
 use std::sync::Wait;
@@ -104,6 +104,29 @@ impl Carried {
         ensures { result.now ≡ self.now.routes }
     {
         self.job.parts().routes.as_slice()
+    }
+
+    /// How many records the lines of the route of this number name in a round, as far as its account
+    /// is found. It only says how long those lines take, and nothing is promised of it.
+    pub fn named_count(&self, number: usize, round: usize) -> u128 {
+        match self.round_account(number, round) {
+            None => 0,
+            Some(account) => account.refused.len() as u128 + account.arrived.len() as u128,
+        }
+    }
+
+    // The account of a round of the route of this number: those of its last stone stand in the order
+    // of routes.
+    fn round_account(&self, number: usize, round: usize) -> Option<&RoundAccount> {
+        let route = self.job.parts().routes.as_slice().get(number)?;
+        let stone = *route.stones.as_slice().last()?;
+        let account = self.accounts.as_slice().get(usize::from(stone))?;
+        let routes = account.routes.as_slice();
+        let number = u16::try_from(number).ok()?;
+        let at = routes
+            .binary_search_by_key(&number, |account| account.route)
+            .ok()?;
+        routes.get(at)?.rounds.as_slice().get(round)
     }
 
     /// Writes the lines that some routes have in a round; the routes are those of the job from

@@ -1,18 +1,16 @@
 //! The digest of a report. With several workers the texts of a round's routes are made by threads
 //! while the round before is hashed.
-ghost use Rattle.std.specs.Prelude.{◌≡◌, ◌+◌, ◌<◌, ◌^◌, ◌++◌, IfOk, IfSome, length};
-ghost use Rattle.std.specs.Prelude.{is_some, true};
-ghost use Rattle.std.specs.List.{flat_map, list_all};
+ghost use Rattle.std.specs.Prelude.{◌≡◌, ◌<◌, ◌++◌, IfOk};
+ghost use Rattle.std.specs.List.{flat_map};
 ghost use Rattle.std.specs.Thread.{IsSync};
 ghost use Rattle.sha2.specs.Sha256.{sha256};
-ghost use Rattle.evp_report.specs.Report.{report, round_line, routes_lines, StandFrom};
+ghost use Rattle.evp_report.specs.Report.{report, round_line, routes_lines};
 ghost use Rattle.evp_stones.specs.Texts.{text_of};
 
 use super::hashing::Hashing;
-use super::kept_text::routes_text;
+use super::round_texts::round_texts;
 use crate::carried::Carried;
 use evp_base::Memory;
-use evp_graph::Route;
 use evp_report::write_round_line;
 use std::alloc::Global;
 use std::marker::Model;
@@ -23,7 +21,7 @@ use std::thread::Threads;
 #[derive(Drop)]
 struct Underway {
     hashed: Hashing,
-    texts: Vec<Option<Vec<u8>>>,
+    texts: Vec<Vec<u8>>,
 }
 
 impl Model for Underway {
@@ -120,8 +118,8 @@ fn beside<R: Threads + Sync>(
     round: usize,
     threads: usize,
     hashed: Hashing,
-    texts: Vec<Option<Vec<u8>>>,
-) -> (Hashing, Result<Vec<Option<Vec<u8>>>, Memory>)
+    texts: Vec<Vec<u8>>,
+) -> (Hashing, Result<Vec<Vec<u8>>, Memory>)
     requires { 0 < threads }
     ensures hashed { result.0 ≡ hashed ++ flat_map text_of texts.items ++ round_line round }
     ensures texts { IfOk result.1 (λ next. flat_map text_of next.items
@@ -132,7 +130,7 @@ fn beside<R: Threads + Sync>(
         move || -> Hashing
             ensures { result ≡ hashed ++ flat_map text_of texts.items ++ round_line round }
         { with_line(with_texts(hashed, &texts), round) },
-        || -> Result<Vec<Option<Vec<u8>>>, Memory>
+        || -> Result<Vec<Vec<u8>>, Memory>
             requires { IsSync R.row × (0 < threads) }
             ensures { IfOk result (λ next. flat_map text_of next.items
                 ≡ routes_lines carried.entry.now round carried.entry.now.routes) }
@@ -140,61 +138,12 @@ fn beside<R: Threads + Sync>(
     )
 }
 
-// The texts of a round's routes, made by so many threads.
-fn round_texts<R: Threads + Sync>(
-    rt: &R,
-    alloc: Global,
-    carried: &Carried,
-    round: usize,
-    threads: usize,
-) -> Result<Vec<Option<Vec<u8>>>, Memory>
-    requires { 0 < threads }
-    ensures { IfOk result (λ texts. flat_map text_of texts.items
-        ≡ routes_lines carried.now round carried.now.routes) }
-{
-    let routes = carried.all_routes();
-    let size = routes.len().div_ceil(threads).max(1);
-    let texts = thread::map_chunks(
-        rt,
-        alloc,
-        routes,
-        size,
-        &|from: usize, some: &[Route]| -> Option<Vec<u8>>
-            requires { StandFrom carried.now.routes from some.now
-                × (from + length some.now < 2 ^ 64) }
-            ensures { IfSome result (λ text. text.items
-                ≡ routes_lines carried.entry.now round some.entry.now) }
-        { routes_text(alloc, carried, round, from, some) },
-    )?;
-    all_there(texts)
-}
-
-// These texts, if none is missing.
-fn all_there(texts: Vec<Option<Vec<u8>>>) -> Result<Vec<Option<Vec<u8>>>, Memory>
-    ensures same { IfOk result (λ all. all.items ≡ texts.items) }
-    ensures there { IfOk result (λ all. list_all is_some all.items ≡ true) }
-{
-    if !are_there(&texts) {
-        return Err(Memory);
-    }
-    Ok(texts)
-}
-
-// No text is missing.
-fn are_there(texts: &[Option<Vec<u8>>]) -> bool
-    ensures { result ≡ list_all is_some texts.now }
-{
-    texts.iter().all(|text| text.is_some())
-}
-
 // These texts behind what was hashed.
-fn with_texts(mut hashed: Hashing, texts: &[Option<Vec<u8>>]) -> Hashing
+fn with_texts(mut hashed: Hashing, texts: &[Vec<u8>]) -> Hashing
     ensures { result ≡ hashed ++ flat_map text_of texts.now }
 {
     for text in texts {
-        if let Some(text) = text {
-            hashed.add(text.as_slice());
-        }
+        hashed.add(text.as_slice());
     }
     hashed
 }

@@ -1,8 +1,9 @@
 //! Text of a report that is kept in memory.
-ghost use Rattle.std.specs.Prelude.{◌≡◌, ◌+◌, ◌<◌, ◌^◌, IfSome, length};
+ghost use Rattle.std.specs.Prelude.{◌≡◌, ◌+◌, ◌<◌, ◌^◌, IfOk, length};
 ghost use Rattle.evp_report.specs.Report.{routes_lines, StandFrom};
 
 use crate::carried::Carried;
+use evp_base::Memory;
 use evp_depot::{Sink, SinkFault};
 use evp_graph::Route;
 use std::alloc::Global;
@@ -62,21 +63,21 @@ impl Sink for KeptText {
 }
 
 /// The lines that some routes have in a round; the routes are those of the job from number `from`
-/// on. None where there is no memory.
+/// on.
 pub(super) fn routes_text(
     alloc: Global,
     carried: &Carried,
     round: usize,
     from: usize,
     routes: &[Route],
-) -> Option<Vec<u8>>
+) -> Result<Vec<u8>, Memory>
     requires stand { StandFrom carried.now.routes from routes.now }
     requires few { from + length routes.now < 2 ^ 64 }
-    ensures { IfSome result (λ text. text.items ≡ routes_lines carried.now round routes.now) }
+    ensures { IfOk result (λ text. text.items ≡ routes_lines carried.now round routes.now) }
 {
     let mut sink = KeptText::new(alloc);
     match carried.write_routes(round, from, routes, &mut sink) {
-        Ok(()) => Some(sink.into_text()),
-        Err(_) => None,
+        Ok(()) => Ok(sink.into_text()),
+        Err(_) => Err(Memory),
     }
 }

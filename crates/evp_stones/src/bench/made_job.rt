@@ -12,6 +12,7 @@ ghost use Rattle.evp_stones.specs.MadeFiles.{AreMade, IsMade, IsMakeable, joined
 use super::beside::both;
 use super::laws::each_bench_is_a_job;
 use super::made_source::{MadeSource, made_source};
+use super::room::ask_ahead;
 use evp_base::Memory;
 use evp_format::Format;
 use evp_gen::{make_job, sent_is_read, sent_is_short};
@@ -43,6 +44,8 @@ pub(super) fn made_job<R: Threads + Sync>(
     each_bench_is_a_job();
     sent_is_read();
     sent_is_short();
+    // the first time tells the C library to keep what is given back
+    ask_ahead(alloc);
     let document = make_job(alloc, records)?;
     let text = stated(alloc, &document)?;
     let made = made_sources(rt, alloc, &text, records, threads)?;

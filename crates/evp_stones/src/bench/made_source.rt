@@ -8,6 +8,7 @@ ghost use Rattle.evp_job.specs.Filling.{HasRecords, bare_source};
 ghost use Rattle.evp_stones.specs.Accepted.{IsReadable};
 ghost use Rattle.evp_stones.specs.MadeFiles.{HasOneFormat, IsFilledBy, IsMade, IsMakeable};
 
+use super::room::ask_ahead;
 use evp_base::Memory;
 use evp_file::{FileFault, FileFormat, RecordFile, read_file};
 use evp_format::Format;
@@ -35,6 +36,7 @@ pub(super) fn made_source(
     requires makeable { IsMakeable text.now records }
     ensures { IsMade text.now records source result }
 {
+    ask_ahead(alloc);
     let bytes = make_file(alloc, source, records)?;
     let file = read(alloc, text, bytes.as_slice())?;
     let number = text.formats.len() + source;

@@ -30,3 +30,4 @@ mod QuietExamples
 mod WordExamples
 pub mod QuietLists
 pub mod QuietSteps
+mod FourLists

@@ -4,6 +4,7 @@ pub mod Cells
 pub mod Clean
 pub mod Counts
 pub mod Faults
+pub mod Fours
 pub mod Matching
 pub mod Measuring
 pub mod Moving

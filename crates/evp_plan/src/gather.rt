@@ -1,6 +1,6 @@
 //! Sixteen bytes of a receiver's record made at once.
 
-ghost use Rattle.std.specs.Prelude.{◌≡◌, true};
+ghost use Rattle.std.specs.Prelude.{◌≡◌, ◌+◌, true};
 ghost use Rattle.evp_plan.specs.Clean.{is_clean, IsPlain};
 
 use evp_wide::Blend;
@@ -27,4 +27,17 @@ pub(crate) struct Gather {
 pub(crate) struct Gathers {
     pub(crate) plain: Vec<Gather>,
     pub(crate) mixed: Vec<Gather>,
+}
+
+// Four plain gathers of 64 bytes side by side, from windows side by side.
+#[derive(Clone, Copy, Debug)]
+pub(crate) struct Four {
+    pub(crate) one: Gather,
+    pub(crate) two: Gather,
+    pub(crate) three: Gather,
+    pub(crate) four: Gather,
+    ghost plain: { (one.plain ≡ true) × ((two.plain ≡ true)
+        × ((three.plain ≡ true) × (four.plain ≡ true))) },
+    ghost to: { (two.to ≡ one.to + 16) × ((three.to ≡ one.to + 32) × (four.to ≡ one.to + 48)) },
+    ghost at: { (two.at ≡ one.at + 16) × ((three.at ≡ one.at + 32) × (four.at ≡ one.at + 48)) },
 }

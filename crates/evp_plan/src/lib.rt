@@ -7,6 +7,7 @@ mod builds;
 mod cell;
 mod compiling;
 mod fitting;
+mod fours;
 mod gather;
 mod gathering;
 mod matching;

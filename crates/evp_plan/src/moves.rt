@@ -1,14 +1,17 @@
 //! Moves of a record's bytes, sixteen at once.
 
-ghost use Rattle.std.specs.Prelude.{◌≡◌, ◌+◌, ◌*◌, ◌^◌, ◌≤◌, ◌<◌, ℕ, true, length, drop, replicate};
+ghost use Rattle.std.specs.Prelude.{◌≡◌, ◌+◌, ◌*◌, ◌^◌, ◌≤◌, ◌<◌, ◌∷◌, [], ℕ, true, length};
+ghost use Rattle.std.specs.Prelude.{drop, replicate};
 ghost use Rattle.std.specs.Prelude.{IfOk, IfSome};
 ghost use Rattle.std.specs.List.{All};
 ghost use Rattle.evp_plan.specs.Cells.{painted_at, painted_each, AreMovesOver, IsMovesOf};
 ghost use Rattle.evp_plan.specs.Cells.{lanes, written, gather_cells, gathered_at, gathered_each};
 ghost use Rattle.evp_plan.specs.Cells.{IsWholeOf, AreMovesOf};
+ghost use Rattle.evp_plan.specs.Fours.{in_fours};
 
 use crate::compiling::{MOST, are_same, end_of, filled, lay_gathers, lay_steps, reach_of};
-use crate::gather::{Gather, Gathers};
+use crate::fours::{fours_of, gathers_from};
+use crate::gather::{Four, Gather, Gathers};
 use crate::gathering::gathers_for;
 use crate::{Cell, Step, Steps};
 use evp_base::{Memory, Order};
@@ -29,6 +32,9 @@ pub struct Series {
 #[derive(Debug, Drop)]
 pub struct Moves {
     gathers: Gathers,
+    // The plain gathers, as far as they go four at a time, and the rest of them.
+    fours: Vec<Four>,
+    rest: Vec<Gather>,
     length: u32,
     reach: u32,
 }
@@ -37,6 +43,7 @@ impl Model for Moves {
     ghost use Rattle.std.specs.Prelude.{replicate};
     ghost use Rattle.evp_plan.specs.declared.cell.Cell.TheVariants.{Keep};
     ghost use Rattle.evp_plan.specs.Cells.{Moving, gathers_over, AreWithin};
+    ghost use Rattle.evp_plan.specs.Fours.{AreParted};
 
     ghost Value = { Moving };
 
@@ -46,7 +53,50 @@ impl Model for Moves {
       reach = m.reach;
     } };
 
-    ghost invariant = { λ m. AreWithin m.length m.reach m.gathers };
+    ghost invariant = { λ m. AreWithin m.length m.reach m.gathers
+        × AreParted m.gathers.plain.items m.fours.items m.rest.items };
+}
+
+// Makes sixteen bytes from `to` on, of the window that begins at `at`, by a plain gather.
+#[inline(always)]
+fn run_plain(gather: &Gather, out: &mut [u8], to: usize, from: &[u8], at: usize)
+    requires plain { gather.now.plain ≡ true }
+    requires window { at + 16 ≤ length from.now }
+    requires room { to + 16 ≤ length out.old }
+    ensures made { out.new ≡ written (lanes gather.now.signed gather.now.blend.mask.places
+        (drop at from.now)) gather.now.blend to out.old }
+    ensures bytes { All (λ byte. byte < 256) out.new }
+{
+    evp_wide::gather(out, to, from, at, &gather.blend.mask);
+}
+
+// Makes 64 bytes of the record at t from the sender's at `at`. All places follow from the first.
+#[inline(always)]
+fn run_four(four: &Four, out: &mut [u8], t: usize, from: &[u8], at: usize)
+    requires window { at + four.now.one.at + 64 ≤ length from.now }
+    requires room { t + four.now.one.to + 64 ≤ length out.old }
+    requires bytes { All (λ byte. byte < 256) out.old }
+    ensures { out.new ≡ gathered_at from.now at t (four.now.one ∷ four.now.two ∷ four.now.three
+        ∷ four.now.four ∷ []) out.old }
+{
+    let to = t + four.one.to as usize;
+    let at = at + four.one.at as usize;
+    run_plain(&four.one, out, to, from, at);
+    run_plain(&four.two, out, to + 16, from, at + 16);
+    run_plain(&four.three, out, to + 32, from, at + 32);
+    run_plain(&four.four, out, to + 48, from, at + 48);
+}
+
+// Runs gathers one after another, four at a time.
+#[inline(always)]
+fn run_in_fours(fours: &[Four], out: &mut [u8], t: usize, from: &[u8], at: usize)
+    requires { All (λ four. (at + four.one.at + 64 ≤ length from.now)
+        × (t + four.one.to + 64 ≤ length out.old)) fours.now }
+    ensures { out.new ≡ gathered_at from.now at t (in_fours fours.now) out.old }
+{
+    for four in fours {
+        run_four(four, out, t, from, at);
+    }
 }
 
 // Makes sixteen bytes of the record at t from the sender's at `at`. Whether the gather is plain may
@@ -210,7 +260,8 @@ impl Moves {
         ensures made { out.new ≡ painted_at from.now at t self.now.cells out.old }
         ensures bytes { All (λ byte. byte < 256) from.now }
     {
-        run_gathers(self.gathers.plain.as_slice(), true, out, t, from, at);
+        run_in_fours(self.fours.as_slice(), out, t, from, at);
+        run_gathers(self.rest.as_slice(), true, out, t, from, at);
         run_gathers(self.gathers.mixed.as_slice(), false, out, t, from, at);
     }
 
@@ -267,8 +318,12 @@ fn moves_over(
     if !are_same(made.as_slice(), cells.as_slice()) {
         return Ok(None);
     }
+    let fours = fours_of(alloc, gathers.plain.as_slice())?;
+    let rest = gathers_from(alloc, gathers.plain.as_slice(), fours.len() * 4)?;
     Ok(Some(Moves {
         gathers,
+        fours,
+        rest,
         length: count,
         reach: reach as u32,
     }))

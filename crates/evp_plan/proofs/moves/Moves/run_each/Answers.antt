@@ -33,7 +33,7 @@ run_gathers_each-requires-clause-room c =
     let long = cells_long c.args.self.now.cells m.gathers.plain.items m.gathers.mixed.items m.length
     (sym (ap (λ (m : Moving). m.cells) c.self.view_is)) in
     all_room c.args.n m.length m.reach to.first to.apart (length c.args.out.now) c.as_slice.result.now m.gathers.plain.items
-    c.as_slice.ensures.value c.self.invariant.first (λ k below. let room = c.requires.room k below in omega (arith, long, room))
+    c.as_slice.ensures.value c.self.invariant.0.first (λ k below. let room = c.requires.room k below in omega (arith, long, room))
 
 pub run_gathers_each-requires-then-to-self-clause-room : goal.run_gathers_each-requires-then-to-self-clause-room
 run_gathers_each-requires-then-to-self-clause-room c =
@@ -43,7 +43,7 @@ run_gathers_each-requires-then-to-self-clause-room c =
     (sym (ap (λ (m : Moving). m.cells) c.self.view_is)) in
     let same = c.run_gathers_each.auto.out in
     all_room c.args.n m.length m.reach to.first to.apart (length c.run_gathers_each.new.out) c.as_slice-then-to-self.result.now
-    m.gathers.mixed.items c.as_slice-then-to-self.ensures.value c.self.invariant.second
+    m.gathers.mixed.items c.as_slice-then-to-self.ensures.value c.self.invariant.0.second
     (λ k below. let room = c.requires.room k below in omega (arith, long, room, same))
 
 pub returns-then-to-self : goal.returns-then-to-self
@@ -56,8 +56,8 @@ returns-then-to-self c =
     let apart = c.if-to-self.true in
     let after = λ (gs : List Gather) (out : List ℕ). gathered_each c.args.from.now at.first at.apart to.first to.apart c.args.n gs out in
     all_each c.args.from.now at.first at.apart to.first to.apart c.args.n m.length m.reach m.gathers.plain.items m.gathers.mixed.items
-    c.args.self.now.cells c.args.out.now c.run_gathers_each.new.out c.run_gathers_each-then-to-self.new.out is c.self.invariant.first
-    c.self.invariant.second (omega (arith, apart)) (λ k below. let room = c.requires.room k below in omega (arith, long, room))
+    c.args.self.now.cells c.args.out.now c.run_gathers_each.new.out c.run_gathers_each-then-to-self.new.out is c.self.invariant.0.first
+    c.self.invariant.0.second (omega (arith, apart)) (λ k below. let room = c.requires.room k below in omega (arith, long, room))
     (c.run_gathers_each.ensures ∙ ap (λ (gs : List Gather). after gs c.args.out.now) c.as_slice.ensures.value)
     (c.run_gathers_each-then-to-self.ensures
     ∙ ap (λ (gs : List Gather). after gs c.run_gathers_each.new.out) c.as_slice-then-to-self.ensures.value)

@@ -1,0 +1,78 @@
+//! Gathers that are run four at a time.
+
+ghost use Rattle.std.specs.Prelude.{◌≡◌, ◌+◌, ◌*◌, ◌≤◌, true, length, take, drop, IfOk, IfSome};
+ghost use Rattle.evp_plan.specs.Fours.{in_fours};
+
+use crate::gather::{Four, Gather};
+use evp_base::Memory;
+use std::alloc::Global;
+
+// Whether a gather stands so many bytes behind a first one, in both records, and is plain.
+fn is_behind(first: &Gather, gather: &Gather, bytes: u64) -> bool
+    requires { bytes ≤ 48 }
+    ensures { result ≡ true → (gather.now.plain ≡ true)
+        × ((gather.now.to ≡ first.now.to + bytes) × (gather.now.at ≡ first.now.at + bytes)) }
+{
+    gather.plain
+        && u64::from(gather.to) == u64::from(first.to) + bytes
+        && u64::from(gather.at) == u64::from(first.at) + bytes
+}
+
+// Four gathers at once, where they stand side by side.
+fn four_of(one: &Gather, two: &Gather, three: &Gather, four: &Gather) -> Option<Four>
+    ensures { IfSome result (λ made. (made.one ≡ one.now) × ((made.two ≡ two.now)
+        × ((made.three ≡ three.now) × (made.four ≡ four.now)))) }
+{
+    if one.plain
+        && is_behind(one, two, 16)
+        && is_behind(one, three, 32)
+        && is_behind(one, four, 48)
+    {
+        Some(Four {
+            one: *one,
+            two: *two,
+            three: *three,
+            four: *four,
+        })
+    } else {
+        None
+    }
+}
+
+// The first of these gathers, four at a time, as far as they stand side by side.
+pub(crate) fn fours_of(alloc: Global, gathers: &[Gather]) -> Result<Vec<Four>, Memory>
+    ensures room { IfOk result (λ fours. length fours.items * 4 ≤ length gathers.now) }
+    ensures fours { IfOk result (λ fours. in_fours fours.items
+        ≡ take (length fours.items * 4) gathers.now) }
+{
+    let mut fours = Vec::new(alloc);
+    for four in 0..gathers.len() / 4 {
+        let k = four * 4;
+        let Some(made) = four_of(
+            &gathers[k],
+            &gathers[k + 1],
+            &gathers[k + 2],
+            &gathers[k + 3],
+        ) else {
+            return Ok(fours);
+        };
+        fours.push(made)?;
+    }
+    Ok(fours)
+}
+
+// The gathers from that number on.
+pub(crate) fn gathers_from(
+    alloc: Global,
+    gathers: &[Gather],
+    first: usize,
+) -> Result<Vec<Gather>, Memory>
+    requires { first ≤ length gathers.now }
+    ensures { IfOk result (λ rest. rest.items ≡ drop first gathers.now) }
+{
+    let mut rest = Vec::new(alloc);
+    for k in first..gathers.len() {
+        rest.push(gathers[k])?;
+    }
+    Ok(rest)
+}

@@ -10,7 +10,7 @@ ghost use Rattle.evp_record.specs.Record.{record_of};
 ghost use Rattle.evp_format.specs.declared.lead.Inside.{Inside};
 ghost use Rattle.evp_format.specs.declared.lead.Run.{Run};
 
-use crate::words::{number_at, pointer_at, zero_at};
+use crate::words::{count_at, pointer_at, zero_at};
 use evp_format::{Count, Format, Inside, Lead, Run};
 use std::marker::Model;
 
@@ -85,11 +85,7 @@ impl<'a> Marker<'a> {
         ensures mark_in { IfSome result (λ end. end ≤ length self.now.bytes) }
     {
         let place = at + count.offset as usize;
-        let number = number_at(self.format, self.bytes, place, count.kind, count.size);
-        if number < 0 {
-            return None;
-        }
-        let length = number as u64;
+        let length = count_at(self.format, self.bytes, place, count.kind, count.size)?;
         if length == 0 {
             return Some(mark);
         }

@@ -5,10 +5,11 @@ ghost use Rattle.evp_base.specs.Numbers.{number, is_size_of, InRange};
 ghost use Rattle.evp_format.specs.Bytes.{bytes_at};
 ghost use Rattle.evp_format.specs.Viewing.{pointer_at, image_of, until_zero};
 ghost use Rattle.evp_format.specs.WellLaid.{IsWellLaid};
+ghost use Rattle.evp_wide.specs.Counts.{natural};
 
 use evp_base::{Kind, get_number};
 use evp_format::Format;
-use evp_wide::zero_at as first_zero;
+use evp_wide::{get_count, zero_at as first_zero};
 
 // The number that stands at `at`, of a size that the compiler knows.
 #[inline(always)]
@@ -34,6 +35,37 @@ pub(crate) fn number_at(format: &Format, bytes: &[u8], at: usize, kind: Kind, si
         2 => number_sized(format, bytes, at, kind, 2),
         4 => number_sized(format, bytes, at, kind, 4),
         _ => number_sized(format, bytes, at, kind, 8),
+    }
+}
+
+// The count that stands at `at`, of a size that the compiler knows.
+#[inline(always)]
+fn count_sized(format: &Format, bytes: &[u8], at: usize, kind: Kind, size: u32) -> Option<u64>
+    requires allowed { IsTrue (is_size_of kind size) }
+    requires inside { at + size ≤ length bytes.now }
+    ensures { result ≡ natural (number format.now.order kind (bytes_at at size bytes.now)) }
+{
+    get_count(&bytes[at..at + size as usize], format.order(), kind)
+}
+
+// The number that stands at `at`, where it isn't below 0.
+#[inline(always)]
+pub(crate) fn count_at(
+    format: &Format,
+    bytes: &[u8],
+    at: usize,
+    kind: Kind,
+    size: u32,
+) -> Option<u64>
+    requires allowed { IsTrue (is_size_of kind size) }
+    requires inside { at + size ≤ length bytes.now }
+    ensures { result ≡ natural (number format.now.order kind (bytes_at at size bytes.now)) }
+{
+    match size {
+        1 => count_sized(format, bytes, at, kind, 1),
+        2 => count_sized(format, bytes, at, kind, 2),
+        4 => count_sized(format, bytes, at, kind, 4),
+        _ => count_sized(format, bytes, at, kind, 8),
     }
 }
 

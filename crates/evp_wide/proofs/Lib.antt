@@ -6,3 +6,4 @@ pub mod Blocks
 pub mod Turned
 pub mod Reordered
 pub mod Residues
+mod Naturals

@@ -3,10 +3,10 @@ use Rattle.std.proofs.Common.{◌≡◌, ℕ, zero, suc, ◌+◌, ◌-◌, ◌<�
 use Rattle.std.proofs.Common.{map, drop-drop, append_assoc, w8, refl, sym, ap, ◌∙◌, arith, inl, inr}
 use Rattle.std.proofs.lemmas.Bool.{cases_lt}
 use Rattle.std.proofs.lemmas.Bool.Decides.{nat_tests}
-use Rattle.std.proofs.lemmas.List.{length-take, length-drop, length-append, take-append-le, drop-append-le, take-append-drop, take_at, drop_at, take_all}
+use Rattle.std.proofs.lemmas.List.{length-take, length-drop, length-append, take-append-le, drop-append-le, take-append-drop, drop_at, take_all}
 use Rattle.std.proofs.lemmas.List.{take-replicate, replicate-append-replicate}
 use Rattle.std.proofs.Math.Seq.{take-append-add}
-use Rattle.std.proofs.lemmas.Simd.{tops_compared, zip2_splat, take_more_put_chunk, length-replicate, length-sel_l}
+use Rattle.std.proofs.lemmas.Simd.{tops_compared, zip2_splat, take_more_put_chunk}
 use Rattle.std.specs.List.{range_with_len}
 use Rattle.std.specs.Prelude.{replicate}
 use lib.Lanes.{put_chunk, zip2, sel_l, top}
@@ -73,33 +73,63 @@ window_put to at n out from inside room few =
     ∙ ap (λ (rest : List ℕ). take to out ++ rest) (append_assoc (take n window) (drop n stood) (drop (to + 16) out)
     ∙ (λ i. take_less n 16 (drop at from) few (omega (arith, length-drop at from)) i ++ behind i))
 
--- ---- two windows, one behind the other
+-- ---- two windows, the second behind the first or inside of it
 
-pub two_put : (to count : ℕ) (out from : List ℕ) → 16 ≤ count → count ≤ length from → to + count ≤ length out
-    → take (to + 16) (take to out ++ (take 16 from ++ drop (to + 16) out))
-    ++ (take (count - 16) (drop 16 from) ++ drop (to + 16 + (count - 16)) (take to out ++ (take 16 from ++ drop (to + 16) out)))
+-- bytes behind those of the first window, which keeps the first `done`
+pub two_put : (to behind done count : ℕ) (out from : List ℕ) → behind ≤ done → done ≤ count → count ≤ length from → to + count ≤ length out
+    → take (to + behind) (take to out ++ (take done from ++ drop (to + done) out))
+    ++ (take (count - behind) (drop behind from)
+    ++ drop (to + behind + (count - behind)) (take to out ++ (take done from ++ drop (to + done) out)))
     ≡ take to out ++ (take count from ++ drop (to + count) out)
-two_put to count out from many inside room =
+two_put to behind done count out from near some inside room =
     let before = take to out in
-    let first = take 16 from in
-    let second = take (count - 16) (drop 16 from) in
-    let rest = drop (to + 16) out in
-    let long : length (before ++ first) ≡ to + 16 =
-    omega (arith, length-append before first, length-take to out, length-take 16 from) in
-    let first_long : length first ≡ 16 = omega (arith, length-take 16 from) in
+    let first = take done from in
+    let second = take (count - behind) (drop behind from) in
+    let rest = drop (to + done) out in
+    let before_long : length before ≡ to = omega (arith, length-take to out) in
+    let first_long : length first ≡ done = omega (arith, length-take done from) in
+    let long : length (before ++ first) ≡ to + done = omega (arith, length-append before first, before_long, first_long) in
+    let part_long : length (take behind from) ≡ behind = omega (arith, length-take behind from) in
     let joined : before ++ (first ++ rest) ≡ (before ++ first) ++ rest = sym (append_assoc before first rest) in
-    let front : take (to + 16) (before ++ (first ++ rest)) ≡ before ++ first =
-    ap (take (to + 16)) joined ∙ take_at (before ++ first) rest (to + 16) long in
-    let behind : drop (to + 16 + (count - 16)) (before ++ (first ++ rest)) ≡ drop (to + count) out =
-    sym (drop-drop (count - 16) (to + 16) (before ++ (first ++ rest)))
-    ∙ ap (drop (count - 16)) (ap (drop (to + 16)) joined ∙ drop_at (before ++ first) rest (to + 16) long)
-    ∙ drop-drop (count - 16) (to + 16) out ∙ ap (λ (n : ℕ). drop n out) (omega (arith, many)) in
-    let whole : first ++ second ≡ take count from =
-    sym (take-append-add first (drop 16 from) (count - 16))
-    ∙ ap (λ (n : ℕ). take n (first ++ drop 16 from)) (omega (arith, many, first_long))
-    ∙ ap (take count) (take-append-drop 16 from) in
-    (λ i. front i ++ (second ++ behind i)) ∙ append_assoc before first (second ++ drop (to + count) out)
-    ∙ ap (λ (l : List ℕ). before ++ l) (sym (append_assoc first second (drop (to + count) out)) ∙ ap (λ (l : List ℕ). l ++ drop (to + count) out) whole)
+    let front : take (to + behind) (before ++ (first ++ rest)) ≡ before ++ take behind from =
+    ap (λ (n : ℕ). take (n + behind) (before ++ (first ++ rest))) (sym before_long)
+    ∙ take-append-add before (first ++ rest) behind
+    ∙ ap (λ (l : List ℕ). before ++ l)
+    (take-append-le behind first rest (omega (arith, first_long, near)) ∙ take_less behind done from near (omega arith)) in
+    let later : drop (to + behind + (count - behind)) (before ++ (first ++ rest)) ≡ drop (to + count) out =
+    ap (λ (n : ℕ). drop n (before ++ (first ++ rest))) (omega (arith, near, some))
+    ∙ sym (drop-drop (count - done) (to + done) (before ++ (first ++ rest)))
+    ∙ ap (drop (count - done)) (ap (drop (to + done)) joined ∙ drop_at (before ++ first) rest (to + done) long)
+    ∙ drop-drop (count - done) (to + done) out ∙ ap (λ (n : ℕ). drop n out) (omega (arith, some)) in
+    let whole : take behind from ++ second ≡ take count from =
+    sym (take-append-add (take behind from) (drop behind from) (count - behind))
+    ∙ ap (λ (n : ℕ). take n (take behind from ++ drop behind from)) (omega (arith, near, some, part_long))
+    ∙ ap (take count) (take-append-drop behind from) in
+    (λ i. front i ++ (second ++ later i)) ∙ append_assoc before (take behind from) (second ++ drop (to + count) out)
+    ∙ ap (λ (l : List ℕ). before ++ l) (sym (append_assoc (take behind from) second (drop (to + count) out))
+    ∙ ap (λ (l : List ℕ). l ++ drop (to + count) out) whole)
+
+-- none behind them
+pub none_put : (at : ℕ) (out from : List ℕ) → take at out ++ (take 0 from ++ drop (at + 0) out) ≡ out
+none_put at out from = ap (λ (n : ℕ). take at out ++ drop n out) (omega arith) ∙ take-append-drop at out
+
+-- a window that begins behind all that the first one put puts nothing more
+pub both_put : (to behind done more count : ℕ) (out from : List ℕ) → done ≤ count → (behind ≤ count → behind ≤ done)
+    → (count < behind → count ≤ done) → more ≡ count - behind → count ≤ length from → to + count ≤ length out
+    → take (to + behind) (take to out ++ (take done from ++ drop (to + done) out))
+    ++ (take more (drop behind from) ++ drop (to + behind + more) (take to out ++ (take done from ++ drop (to + done) out)))
+    ≡ take to out ++ (take count from ++ drop (to + count) out)
+both_put to behind done more count out from some near all more_is inside room =
+    let first = λ (n : ℕ). take to out ++ (take n from ++ drop (to + n) out) in
+    let second = λ (n : ℕ). take (to + behind) (first done)
+    ++ (take n (drop behind from) ++ drop (to + behind + n) (first done)) in
+    elim (cases_lt count behind) [
+      | inl less ↦
+          let nothing : more ≡ 0 = omega (arith, more_is, less) in
+          let same : done ≡ count = let whole = all less in omega (arith, whole, some) in
+          ap second nothing ∙ none_put (to + behind) (first done) (drop behind from) ∙ ap first same
+      | inr past ↦ ap second more_is ∙ two_put to behind done count out from (near past) some inside room
+    ]
 
 -- ---- zeros
 

@@ -3,3 +3,4 @@ pub mod Gathered
 pub mod Elements
 pub mod Masks
 pub mod Blocks
+pub mod Counts

@@ -29,24 +29,26 @@ pub fn put_front(out: &mut [u8], to: usize, from: &[u8], count: usize)
     requires room { to + count ≤ length out.old }
     ensures { out.new ≡ take to out.old ++ (take count from.now ++ drop (to + count) out.old) }
 {
-    if count <= 16 && from.len() >= 16 && out.len() - to >= 16 {
-        put_window(out, to, from, 0, count);
-        return;
-    }
-    put_longer(out, to, from, count);
-}
-
-// The same for more than sixteen bytes, or without room for as many.
-#[inline(always)]
-fn put_longer(out: &mut [u8], to: usize, from: &[u8], count: usize)
-    requires front { count ≤ length from.now }
-    requires room { to + count ≤ length out.old }
-    ensures { out.new ≡ take to out.old ++ (take count from.now ++ drop (to + count) out.old) }
-{
-    if count >= 16 && count <= 32 && from.len() >= 32 && out.len() - to >= 32 {
-        put_window(out, to, from, 0, 16);
-        put_window(out, to + 16, from, 16, count - 16);
-        return;
+    let both = from.len().min(out.len() - to);
+    if both >= 16 {
+        let behind = (both - 16).min(16);
+        if count <= behind + 16 {
+            put_two(out, to, from, count, behind);
+            return;
+        }
     }
     out[to..to + count].copy_from_slice(&from[..count]);
+}
+
+// The same by two windows, of which the second begins inside the first or right behind it.
+#[inline(always)]
+fn put_two(out: &mut [u8], to: usize, from: &[u8], count: usize, behind: usize)
+    requires near { behind ≤ 16 }
+    requires few { count ≤ behind + 16 }
+    requires inside { behind + 16 ≤ length from.now }
+    requires room { to + behind + 16 ≤ length out.old }
+    ensures { out.new ≡ take to out.old ++ (take count from.now ++ drop (to + count) out.old) }
+{
+    put_window(out, to, from, 0, count.min(16));
+    put_window(out, to + behind, from, behind, count.saturating_sub(behind));
 }

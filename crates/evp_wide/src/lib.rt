@@ -3,6 +3,7 @@
 #![tactic(auto)]
 
 mod clearing;
+mod counts;
 mod elements;
 mod fronts;
 mod lanes;
@@ -15,6 +16,7 @@ mod words;
 mod zeros;
 
 pub use clearing::clear;
+pub use counts::get_count;
 pub use fronts::put_front;
 pub use lanes::{Blend, Mask, gather, gather_blend, gather_or, gather_signs};
 pub use numbers::rewrite;

@@ -1,4 +1,4 @@
-use Rattle.std.proofs.Common.{◌≡◌, ℕ, cond, eqb, not, true, false, w8, ap, ◌∙◌, sym, arith}
+use Rattle.std.proofs.Common.{◌≡◌, ℕ, cond, eqb, not, w8, ap, ◌∙◌, arith}
 use Rattle.std.proofs.lemmas.Simd.{bitmask_splat, first_set_mask_l, length-chunk, run_in_chunk_le, run_in_chunk_fails, run_in_chunk_stops}
 use Rattle.std.specs.List.{prefix_len}
 use lib.Count.{count_trailing_zeros}

@@ -100,8 +100,41 @@ pub(crate) fn move_number(
     }
 }
 
-// The same for a number that stands there.
+// The same for a number that stands there: of sizes that the compiler knows, where they are the
+// same.
+#[inline(always)]
 fn move_standing(work: &Move, at: usize, source: &Source, out: &mut [u8], t: usize, size: u32)
+    requires there { IsOriginThere (image_in work.now.sender) at (Standing source.now) }
+    requires at_inside { at ≤ length work.now.sender.bytes.now }
+    requires allowed { IsTrue (is_width size) }
+    requires room { t + size ≤ length out.old }
+    ensures { out.new ≡ put_at t (digits work.now.plan.now.order size
+        (origin_number (image_in work.now.sender) at (Standing source.now))) out.old }
+{
+    if size == source.size {
+        match size {
+            4 => move_sized(work, at, source, 4, out, t, 4),
+            8 => move_sized(work, at, source, 8, out, t, 8),
+            2 => move_sized(work, at, source, 2, out, t, 2),
+            _ => move_sized(work, at, source, size, out, t, size),
+        }
+    } else {
+        move_sized(work, at, source, source.size, out, t, size);
+    }
+}
+
+// The same from a size and to a size.
+#[inline(always)]
+fn move_sized(
+    work: &Move,
+    at: usize,
+    source: &Source,
+    width: u32,
+    out: &mut [u8],
+    t: usize,
+    size: u32,
+)
+    requires sized { width ≡ source.now.size }
     requires there { IsOriginThere (image_in work.now.sender) at (Standing source.now) }
     requires at_inside { at ≤ length work.now.sender.bytes.now }
     requires allowed { IsTrue (is_width size) }
@@ -111,7 +144,7 @@ fn move_standing(work: &Move, at: usize, source: &Source, out: &mut [u8], t: usi
 {
     let s = at + source.offset as usize;
     let bytes = work.sender.bytes;
-    let from = &bytes[s..s + source.size as usize];
+    let from = &bytes[s..s + width as usize];
     let place = &mut out[t..t + size as usize];
     rewrite_number(
         place,

@@ -10,6 +10,7 @@ use crate::reading::count_of;
 use evp_plan::{Elements, Part, Step};
 
 // Whether the sender has an array of another length.
+#[inline(always)]
 pub(crate) fn has_other_count(measure: &Measure, at: usize, n: u128, elements: &Elements) -> bool
     requires at_inside { at ≤ length measure.now.sender.bytes.now }
     requires there { IsCountThere (image_in measure.now.sender) at elements.now.run }

@@ -173,8 +173,9 @@ fn move_many(
     move_elements(work, number, step, elements, at, n, out, q, end)
 }
 
-// n elements, the first at `base`.
+// n elements, the first at `base`: at once, where they are numbers that stand side by side.
 #[cycle(moving)]
+#[inline(always)]
 fn move_elements(
     work: &Move,
     number: usize,
@@ -208,6 +209,40 @@ fn move_elements(
         put_numbers(work, step.task.size, &numbers, n as usize, out, base);
         return size;
     }
+    move_each(work, number, step, elements, at, n, out, base, size)
+}
+
+// n elements that aren't numbers side by side.
+#[cycle(moving)]
+fn move_each(
+    work: &Move,
+    number: usize,
+    step: &Step,
+    elements: &Elements,
+    at: usize,
+    n: u128,
+    out: &mut [u8],
+    base: usize,
+    size: usize,
+) -> usize
+    requires known { number < length work.now.plan.now.table }
+    requires at_inside { at ≤ length work.now.sender.bytes.now }
+    requires earlier { IsEarlier number step.now }
+    requires can { CanMoveList work.now.plan.now (image_in work.now.sender) step.now elements.now at }
+    requires few { AreFew (image_in work.now.sender) at n elements.now.run }
+    requires room { base + n * step.now.task.size ≤ length out.old }
+    requires fits { (moved_elements (λ k. moved_element (image_in work.now.sender)
+        (machine_in work.now.plan.now) step.now.task.size elements.now
+        (moved (image_in work.now.sender) (machine_in work.now.plan.now)
+        (inside work.now.plan.now step.now)) at k (base + k * step.now.task.size)) n 0 size).size ≤
+        length out.old }
+    ensures { IsPut
+        (moved_elements (λ k. moved_element (image_in work.now.sender)
+        (machine_in work.now.plan.now) step.now.task.size elements.now
+        (moved (image_in work.now.sender) (machine_in work.now.plan.now)
+        (inside work.now.plan.now step.now)) at k (base + k * step.now.task.size)) n 0 size) result
+        out.old out.new }
+{
     if let Some(run) = &elements.run {
         if let Some(moves) = record_moves(work, step, elements) {
             let to = Series {

@@ -13,7 +13,7 @@ ghost use Rattle.evp_runner.specs.StepIn.{image_in, CanRun, CanStep, CanList, Is
 use crate::blocks::take_elements;
 use crate::lists::{has_other_count, is_quiet};
 use crate::measuring::Measure;
-use crate::reading::{number_from, text_there};
+use crate::reading::{text_there, wanted_from};
 use evp_plan::{Elements, Op, Origin, Quick, Step};
 
 // The size behind the text whose pointer stands at s, where the limit allows it.
@@ -53,17 +53,14 @@ fn quick_many(
         (image_in measure.now.sender) step.now origin.now elements.now at size end) }
     ensures bound { IfSome result (λ end. end < 2 ^ 32) }
 {
-    let wanted = number_from(&measure.sender, at, origin);
-    if wanted < 0 {
-        return None;
-    }
-    if has_other_count(measure, at, wanted as u128, elements) {
+    let wanted = u128::from(wanted_from(&measure.sender, at, origin)?);
+    if has_other_count(measure, at, wanted, elements) {
         return None;
     }
     if !is_quiet(measure, step, &elements.part) {
         return None;
     }
-    take_elements(measure, wanted as u128, step.task.size, size)
+    take_elements(measure, wanted, step.task.size, size)
 }
 
 // The size behind a field of the record at `at` that is no single number.

@@ -1,6 +1,7 @@
 //! What stands in a sender's record, read at offsets.
 
-ghost use Rattle.std.specs.Prelude.{◌≡◌, ◌+◌, ◌≤◌, ◌<◌, ◌^◌, length, take, IsTrue, IfSome, option_map};
+ghost use Rattle.std.specs.Prelude.{◌≡◌, ◌+◌, ◌≤◌, ◌<◌, ◌^◌, pos, length, take, IsTrue};
+ghost use Rattle.std.specs.Prelude.{IfSome, option_map};
 ghost use Rattle.std.specs.Option.{option_copied};
 ghost use Rattle.evp_base.specs.Numbers.{number, is_size_of, InRange};
 ghost use Rattle.evp_format.specs.Bytes.{bytes_at};
@@ -16,7 +17,7 @@ use crate::counts::count_in;
 use crate::sender::Sender;
 use evp_base::{Kind, get_number};
 use evp_plan::{Origin, Run, Source};
-use evp_wide::{get_word, zero_at as first_zero};
+use evp_wide::{get_count, get_word, zero_at as first_zero};
 
 // The number of this kind that stands at s, of a size that the compiler knows.
 #[inline(always)]
@@ -162,6 +163,54 @@ fn count_there(sender: &Sender, at: usize, source: &Source) -> u64
         4 => count_sized(sender, at, source, 4),
         2 => count_sized(sender, at, source, 2),
         _ => count_sized(sender, at, source, source.size),
+    }
+}
+
+// A number of elements that stands there, of a size that the compiler knows.
+#[inline(always)]
+fn wanted_sized(sender: &Sender, at: usize, source: &Source, size: u32) -> Option<u64>
+    requires sized { size ≡ source.now.size }
+    requires there { IsOriginThere (image_in sender.now) at (Standing source.now) }
+    requires inside { at ≤ length sender.now.bytes.now }
+    ensures { IfSome result (λ n. origin_number (image_in sender.now) at (Standing source.now)
+        ≡ pos n) }
+{
+    let s = at + source.offset as usize;
+    let bytes = sender.bytes;
+    get_count(&bytes[s..s + size as usize], sender.order, source.kind)
+}
+
+// The same of any size.
+#[inline(always)]
+fn wanted_there(sender: &Sender, at: usize, source: &Source) -> Option<u64>
+    requires there { IsOriginThere (image_in sender.now) at (Standing source.now) }
+    requires inside { at ≤ length sender.now.bytes.now }
+    ensures { IfSome result (λ n. origin_number (image_in sender.now) at (Standing source.now)
+        ≡ pos n) }
+{
+    match source.size {
+        8 => wanted_sized(sender, at, source, 8),
+        4 => wanted_sized(sender, at, source, 4),
+        2 => wanted_sized(sender, at, source, 2),
+        _ => wanted_sized(sender, at, source, source.size),
+    }
+}
+
+// A number of elements, where it is easily seen that it isn't below 0.
+#[inline(always)]
+pub(crate) fn wanted_from(sender: &Sender, at: usize, origin: &Origin) -> Option<u64>
+    requires there { IsOriginThere (image_in sender.now) at origin.now }
+    requires inside { at ≤ length sender.now.bytes.now }
+    ensures { IfSome result (λ n. origin_number (image_in sender.now) at origin.now ≡ pos n) }
+{
+    match origin {
+        Origin::Standing(source) => wanted_there(sender, at, source),
+        Origin::Stated(number) => {
+            if *number < 0 || *number > 0xffff_ffff {
+                return None;
+            }
+            Some(*number as u64)
+        }
     }
 }
 

@@ -5,7 +5,7 @@ use Rattle.evp_base.specs.Numbers.{number, digits}
 use Rattle.evp_base.proofs.Numbers.{length-digits}
 use Rattle.evp_format.specs.Bytes.{bytes_at, put_at}
 use Rattle.evp_runner.proofs.MidPut.{mid_put}
-use Rattle.evp_runner.proofs.digits.move_standing.Goals as goal
+use Rattle.evp_runner.proofs.digits.move_sized.Goals as goal
 
 pub returns : goal.returns
 returns c =
@@ -22,10 +22,10 @@ returns c =
     let taken = length-take part (drop t out) in
     let room = c.requires.room in
     let long : length (take part (drop t out)) ≡ size = omega (arith, room, left, taken) in
-    let width : s + source.size - s ≡ source.size = omega arith in
+    let width : s + c.args.width - s ≡ source.size = omega (arith, c.requires.sized) in
     let read = λ (k : ℕ). number c.args.work.now.sender.order source.kind (take k (drop s bytes)) in
     let made : c.rewrite_number.new.out ≡ digits order size value =
-    c.rewrite_number.ensures ∙ ap (λ (o : Order). digits o (length (take part (drop t out))) (read (s + source.size - s))) c.order.ensures
-    ∙ ap (λ (k : ℕ). digits order k (read (s + source.size - s))) long ∙ ap (λ (k : ℕ). digits order size (read k)) width in
+    c.rewrite_number.ensures ∙ ap (λ (o : Order). digits o (length (take part (drop t out))) (read (s + c.args.width - s))) c.order.ensures
+    ∙ ap (λ (k : ℕ). digits order k (read (s + c.args.width - s))) long ∙ ap (λ (k : ℕ). digits order size (read k)) width in
     mid_put t size out c.rewrite_number.new.out (ap length made ∙ length-digits order size value) room
     ∙ ap (λ (l : List ℕ). put_at t l out) made

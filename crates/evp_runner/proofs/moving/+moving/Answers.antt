@@ -21,8 +21,8 @@ use Rattle.evp_runner.proofs.Records.{run_begins, records_reach, records_room, r
 use Rattle.evp_runner.proofs.Painting.{paints, paints_reach, paints_cells, paints_put}
 use Rattle.evp_runner.proofs.moving.+moving.Goals as goal
 
-pub move_elements-move_part-size-requires : goal.move_elements-move_part-size-requires
-move_elements-move_part-size-requires t c =
+pub move_each-move_part-size-requires : goal.move_each-move_part-size-requires
+move_each-move_part-size-requires t c =
     let plan = c.args.work.now.plan.now in
     let image = image_in c.args.work.now.sender in
     let step = c.args.step.now in
@@ -56,8 +56,8 @@ move_elements-move_part-size-requires t c =
       ),
     )
 
-pub move_elements-loop-k-preserved : goal.move_elements-loop-k-preserved
-move_elements-loop-k-preserved t c =
+pub move_each-loop-k-preserved : goal.move_each-loop-k-preserved
+move_each-loop-k-preserved t c =
     let plan = c.args.work.now.plan.now in
     let image = image_in c.args.work.now.sender in
     let step = c.args.step.now in
@@ -73,8 +73,8 @@ move_elements-loop-k-preserved t c =
     c.args.out.now c.loop-k-test.true
     (subst Put c.source_place-source.ensures c.move_part-size.ensures) c.loop-k.invariant
 
-pub move_elements-returns : goal.move_elements-returns
-move_elements-returns t c =
+pub move_each-returns : goal.move_each-returns
+move_each-returns t c =
     let plan = c.args.work.now.plan.now in
     let image = image_in c.args.work.now.sender in
     let one = element_one plan image c.args.step.now c.args.elements.now c.args.at c.args.base in
@@ -327,8 +327,16 @@ move_elements-overflow_cast-n t c =
     let room = c.requires.room in
     omega (arith, room, more)
 
-pub move_elements-overflow_cast-k-end : goal.move_elements-overflow_cast-k-end
-move_elements-overflow_cast-k-end t c =
+pub move_each-overflow_cast-n : goal.move_each-overflow_cast-n
+move_each-overflow_cast-n t c =
+    let some = some_bytes c.args.work.now.plan.now.pointer c.args.step.now.task.size c.args.elements.now.part _ c.args.work.now.wide
+    c.requires.can.sound in
+    let more = mul-le-mul_left c.args.n some in
+    let room = c.requires.room in
+    omega (arith, room, more)
+
+pub move_each-overflow_cast-k-end : goal.move_each-overflow_cast-k-end
+move_each-overflow_cast-k-end t c =
     let some = some_bytes c.args.work.now.plan.now.pointer c.args.step.now.task.size c.args.elements.now.part _ c.args.work.now.wide
     c.requires.can.sound in
     let more = mul-le-mul_left c.args.n some in
@@ -354,45 +362,45 @@ move_elements-returns-in-Some t c =
     c.args.n c.args.size numbers.width numbers.kind numbers.bytes.now c.args.out.now c.put_numbers.new.out c.in-Some.ensures c.requires.room
     c.put_numbers.ensures
 
-pub move_elements-first_place-first-requires-clause-there : goal.move_elements-first_place-first-requires-clause-there
-move_elements-first_place-first-requires-clause-there t c =
+pub move_each-first_place-first-requires-clause-there : goal.move_each-first_place-first-requires-clause-there
+move_each-first_place-first-requires-clause-there t c =
     begins_there c.args.work.now.plan.now (image_in c.args.work.now.sender) c.args.step.now c.args.elements.now c.args.at c.requires.can
 
-pub move_elements-put_records-requires-clause-begins : goal.move_elements-put_records-requires-clause-begins
-move_elements-put_records-requires-clause-begins t c =
-    run_begins c.args.work.now.plan.now (image_in c.args.work.now.sender) c.args.step.now c.args.elements.now c.in-Some-run.run' c.args.at
-    c.in-Some-run.is c.requires.can
+pub move_each-put_records-requires-clause-begins : goal.move_each-put_records-requires-clause-begins
+move_each-put_records-requires-clause-begins t c =
+    run_begins c.args.work.now.plan.now (image_in c.args.work.now.sender) c.args.step.now c.args.elements.now c.in-Some.run' c.args.at
+    c.in-Some.is c.requires.can
 
-pub move_elements-put_records-requires-clause-reach : goal.move_elements-put_records-requires-clause-reach
-move_elements-put_records-requires-clause-reach t c =
+pub move_each-put_records-requires-clause-reach : goal.move_each-put_records-requires-clause-reach
+move_each-put_records-requires-clause-reach t c =
     let plan = c.args.work.now.plan.now in
     let image = image_in c.args.work.now.sender in
     let moves = c.in-Some-record_moves.moves.now in
     let r : AreRecordMoves plan image c.args.step.now c.args.elements.now moves = c.in-Some-record_moves.ensures in
     let low = c.requires.earlier r.number r.inner_is in
     let known = c.requires.known in
-    records_reach plan image c.args.step.now c.args.elements.now c.in-Some-run.run' moves c.args.at c.args.base c.args.n
-    (length c.args.out.now) r (omega (arith, low, known)) c.in-Some-run.is c.requires.can c.requires.few c.requires.room
+    records_reach plan image c.args.step.now c.args.elements.now c.in-Some.run' moves c.args.at c.args.base c.args.n
+    (length c.args.out.now) r (omega (arith, low, known)) c.in-Some.is c.requires.can c.requires.few c.requires.room
 
-pub move_elements-put_records-requires-clause-room : goal.move_elements-put_records-requires-clause-room
-move_elements-put_records-requires-clause-room t c =
+pub move_each-put_records-requires-clause-room : goal.move_each-put_records-requires-clause-room
+move_each-put_records-requires-clause-room t c =
     let plan = c.args.work.now.plan.now in
     let image = image_in c.args.work.now.sender in
     let moves = c.in-Some-record_moves.moves.now in
     let r : AreRecordMoves plan image c.args.step.now c.args.elements.now moves = c.in-Some-record_moves.ensures in
     let low = c.requires.earlier r.number r.inner_is in
     let known = c.requires.known in
-    records_room plan image c.args.step.now c.args.elements.now c.in-Some-run.run' moves c.args.at c.args.base c.args.n
-    (length c.args.out.now) r (omega (arith, low, known)) c.in-Some-run.is c.requires.can c.requires.few c.requires.room
+    records_room plan image c.args.step.now c.args.elements.now c.in-Some.run' moves c.args.at c.args.base c.args.n
+    (length c.args.out.now) r (omega (arith, low, known)) c.in-Some.is c.requires.can c.requires.few c.requires.room
 
-pub move_elements-returns-in-Some-record_moves : goal.move_elements-returns-in-Some-record_moves
-move_elements-returns-in-Some-record_moves t c =
+pub move_each-returns-in-Some-record_moves : goal.move_each-returns-in-Some-record_moves
+move_each-returns-in-Some-record_moves t c =
     let plan = c.args.work.now.plan.now in
     let image = image_in c.args.work.now.sender in
     let moves = c.in-Some-record_moves.moves.now in
     let r : AreRecordMoves plan image c.args.step.now c.args.elements.now moves = c.in-Some-record_moves.ensures in
     let low = c.requires.earlier r.number r.inner_is in
     let known = c.requires.known in
-    records_put plan image c.args.step.now c.args.elements.now c.in-Some-run.run' moves c.args.at c.args.base c.args.n c.args.size
-    c.args.out.now c.put_records.new.out r (omega (arith, low, known)) c.in-Some-run.is c.requires.can c.requires.few
+    records_put plan image c.args.step.now c.args.elements.now c.in-Some.run' moves c.args.at c.args.base c.args.n c.args.size
+    c.args.out.now c.put_records.new.out r (omega (arith, low, known)) c.in-Some.is c.requires.can c.requires.few
     c.args.work.now.sender.are c.requires.room c.put_records.ensures

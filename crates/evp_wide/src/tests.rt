@@ -94,6 +94,19 @@ fn numbers_change_their_size(rt: HostRuntime) -> Result<(), Fail> {
 }
 
 #[test]
+fn a_count_is_no_number_below_0(rt: HostRuntime) -> Result<(), Fail> {
+    let bytes = [0x01, 0x80];
+    assert_eq!(rt; get_count(&bytes, Order::Big, Kind::Int), Some(384));
+    assert_eq!(rt; get_count(&bytes, Order::Little, Kind::Int), None);
+    assert_eq!(rt;
+        get_count(&bytes, Order::Little, Kind::Unsigned),
+        Some(32_769)
+    );
+    assert_eq!(rt; get_count(&[7], Order::Little, Kind::Boolean), Some(1));
+    Ok(())
+}
+
+#[test]
 fn a_mask_picks_from_its_window(rt: HostRuntime) -> Result<(), Fail> {
     let from = [
         0, 1, 2, 3, 4, 5, 6, 7, 8, 9, 10, 11, 12, 13, 14, 15, 16, 17, 18, 19,

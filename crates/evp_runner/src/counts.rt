@@ -24,9 +24,6 @@ pub(crate) fn count_in(bytes: &[u8], order: Order, kind: Kind) -> u64
     ensures { result ≡ as_count (number order kind bytes.now) }
 {
     let word = get_word(bytes, order);
-    if let Kind::Int = kind {
-        return from_zero(word, bytes.len());
-    }
     match kind {
         Kind::Int | Kind::Enumeration => from_zero(word, bytes.len()),
         Kind::Unsigned | Kind::Char => word,

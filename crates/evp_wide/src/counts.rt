@@ -29,9 +29,6 @@ pub fn get_count(bytes: &[u8], order: Order, kind: Kind) -> Option<u64>
     ensures { result ≡ natural (number order kind bytes.now) }
 {
     let word = get_word(bytes, order);
-    if let Kind::Int = kind {
-        return from_zero(word, bytes.len());
-    }
     match kind {
         Kind::Int | Kind::Enumeration => from_zero(word, bytes.len()),
         Kind::Unsigned | Kind::Char => Some(word),

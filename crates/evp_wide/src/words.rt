@@ -115,9 +115,6 @@ fn get_number_word(bytes: &[u8], order: Order, kind: Kind) -> u64
     ensures { result ≡ residue (number order kind bytes.now) (2 ^ 64) }
 {
     let word = get_word(bytes, order);
-    if let Kind::Int = kind {
-        return with_sign(word, bytes.len());
-    }
     match kind {
         Kind::Int | Kind::Enumeration => with_sign(word, bytes.len()),
         Kind::Unsigned | Kind::Char => word,

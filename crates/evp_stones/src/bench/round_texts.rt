@@ -81,13 +81,7 @@ fn with_first(text: Vec<u8>, mut texts: Vec<Vec<u8>>) -> Result<Vec<Vec<u8>>, Me
 
 // Behind how many of these routes the first of so many parts ends, so that each names about as many
 // records in a round. Any place would do: it only sets how long each thread works.
-fn parting(
-    carried: &Carried,
-    round: usize,
-    from: usize,
-    routes: &[Route],
-    parts: usize,
-) -> usize
+fn parting(carried: &Carried, round: usize, from: usize, routes: &[Route], parts: usize) -> usize
     requires { from + length routes.now < 2 ^ 64 }
     ensures { result ≤ length routes.now }
 {

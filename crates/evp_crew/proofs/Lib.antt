@@ -10,6 +10,7 @@ pub mod Rotas
 pub mod Rotation
 pub mod SeatOpens
 pub mod Seated
+pub mod Serving
 pub mod Sitting
 pub mod Taking
 pub mod Through

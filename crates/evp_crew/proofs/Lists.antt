@@ -1,7 +1,7 @@
 -- Elements of lists by their places.
-use Rattle.std.proofs.Common.{◌≡◌, ℕ, zero, suc, ◌+◌, List, [], ◌∷◌, ◌++◌, length, Some, Bool, true, refl, sym, ◌∙◌}
+use Rattle.std.proofs.Common.{◌≡◌, ℕ, zero, suc, List, [], ◌∷◌, ◌++◌, length, Some, Bool, true, refl, sym, ◌∙◌}
 use Rattle.std.proofs.Common.{⊎_elim, arith}
-use Rattle.std.specs.Prelude.{◌⊎◌, ◌==◌, Vec}
+use Rattle.std.specs.Prelude.{◌==◌, Vec}
 use Rattle.std.specs.Vec.{vec_len}
 use Rattle.std.proofs.lemmas.Bool.{false≢true}
 use Rattle.std.proofs.lemmas.Bool.Decides.{eqb_tells}

@@ -1,22 +1,18 @@
 //! The carrying of a job: by workers, and where they leave something by the caller alone.
-ghost use Rattle.std.specs.Prelude.{◌≡◌, ◌≤◌, ◌++◌, ◌∷◌, [], Some, length, All};
-ghost use Rattle.std.specs.Prelude.{IfOk, IfSome, OnOk};
+ghost use Rattle.std.specs.Prelude.{◌≡◌, ◌≤◌, length, IfOk, IfSome};
 ghost use Rattle.evp_cache.specs.Known.{IsCacheOf};
-ghost use Rattle.evp_crew.specs.declared.three.Three.{Three};
 ghost use Rattle.evp_crew.specs.Carried.{IsCarried};
 ghost use Rattle.evp_crew.specs.Done.{WorksAt};
 ghost use Rattle.evp_crew.specs.Gathering.{AllWork};
-ghost use Rattle.evp_crew.specs.Rota.{three, three_of, ServesIn};
-ghost use Rattle.evp_crew.specs.Rule.{IsServed};
+ghost use Rattle.evp_crew.specs.Rota.{three, AreServing};
 
 use crate::alone::alone;
 use crate::carried::Carried;
 use crate::crew::Crew;
 use crate::gate::Gate;
 use crate::gathering::gathered;
-use crate::rota::{Rota, RotaPass};
-use crate::seat::Seat;
-use crate::worker::{Office, Worker};
+use crate::seating::{add, more_desks, rotas_of};
+use crate::worker::{Desk, Office, Worker};
 use evp_base::Memory;
 use evp_cache::PlanCache;
 use evp_stone::Job;
@@ -61,17 +57,17 @@ fn by_workers<R: Threads + Wait + Sync, G: Gate + Sync>(
 {
     let (crew, seats) = Crew::new(rt, alloc, job, cache)?;
     let count = seats.len();
-    let (rota, mut pass) = Rota::new(rt, alloc, job, cache, &crew)?;
-    if !put_all(rt, &rota, &mut pass, seats) {
+    let Some((rotas, mut desks)) = rotas_of(rt, alloc, job, cache, &crew, seats)? else {
         return Ok(None);
-    }
-    let mut all = hired(rt, alloc, &rota, &mut pass, workers, count)?;
+    };
     let office = Office {
         job,
         cache,
         crew: &crew,
-        rota: &rota,
+        rotas: rotas.as_slice(),
+        workers,
     };
+    let mut all = hired(rt, alloc, &office, desks.as_mut_slice())?;
     work_all(rt, &office, gate, all.as_mut_slice());
     match gathered(alloc, count, all)? {
         Some(seats) => Ok(Some(Carried::new(alloc, job, cache, crew, seats)?)),
@@ -79,50 +75,29 @@ fn by_workers<R: Threads + Wait + Sync, G: Gate + Sync>(
     }
 }
 
-/// Puts seats into the rota. False where one was handed back.
-pub(crate) fn put_all<R: Wait>(rt: &R, rota: &Rota, pass: &mut RotaPass, seats: Vec<Seat>) -> bool
-    requires pass { ServesIn rota.now pass.old }
-    requires seats { All (IsServed (three_of pass.old)) seats.items }
-    ensures pass { ServesIn rota.now pass.new × (three_of pass.new ≡ three_of pass.old) }
-{
-    for seat in seats {
-        if rota.put(rt, pass, seat).is_err() {
-            return false;
-        }
-    }
-    true
-}
-
-// So many workers at a rota, each with room for so many seats.
+// The workers of an office, each with room for every seat.
 fn hired<R: Wait>(
     rt: &R,
     alloc: Global,
-    rota: &Rota,
-    pass: &mut RotaPass,
-    workers: u32,
-    count: usize,
+    office: &Office<'_>,
+    desks: &mut [Desk],
 ) -> Result<Vec<Worker>, Memory>
-    requires { ServesIn rota.now pass.old }
-    ensures { (t : Three) → three_of pass.old ≡ Some t
-        → IfOk result (λ all. AllWork rota.now t all.items) }
+    requires { AreServing (three office.now.job.now office.now.cache.now office.now.crew.now)
+        office.now.rotas.now desks.old }
+    ensures work { IfOk result (λ all. AllWork office.now.rotas.now
+        (three office.now.job.now office.now.cache.now office.now.crew.now) all.items) }
+    ensures each { IfOk result (λ all. length all.items ≡ office.now.workers) }
 {
-    let mut all = Vec::with_capacity(alloc, workers as usize)?;
-    for number in 0..workers {
+    let mut all = Vec::with_capacity(alloc, office.workers as usize)?;
+    for number in 0..office.workers {
         let worker = Worker {
             number,
-            pass: rota.split(rt, pass)?,
-            closed: Vec::with_capacity(alloc, count)?,
+            desks: more_desks(rt, alloc, office, desks)?,
+            closed: Vec::with_capacity(alloc, office.rotas.len())?,
         };
-        hire(&mut all, worker)?;
+        add(&mut all, worker)?;
     }
     Ok(all)
-}
-
-// Adds a worker at the end.
-fn hire(all: &mut Vec<Worker>, worker: Worker) -> Result<(), Memory>
-    ensures { OnOk result (all.new.items ≡ all.old.items ++ worker ∷ []) }
-{
-    Ok(all.push(worker)?)
 }
 
 // All workers work until they end, each in a thread where one can be made.
@@ -132,10 +107,10 @@ fn work_all<R: Threads + Wait + Sync, G: Gate + Sync>(
     gate: &G,
     all: &mut [Worker],
 )
-    requires { AllWork office.now.rota.now
+    requires { AllWork office.now.rotas.now
         (three office.now.job.now office.now.cache.now office.now.crew.now) all.old }
     ensures long { length all.new ≡ length all.old }
-    ensures work { AllWork office.now.rota.now
+    ensures work { AllWork office.now.rotas.now
         (three office.now.job.now office.now.cache.now office.now.crew.now) all.new }
 {
     let threads = all.len().max(1);
@@ -144,9 +119,9 @@ fn work_all<R: Threads + Wait + Sync, G: Gate + Sync>(
         all,
         threads,
         &|_, worker: &mut Worker|
-            requires { WorksAt office.now.rota.now
+            requires { WorksAt office.now.rotas.now
                 (three office.now.job.now office.now.cache.now office.now.crew.now) worker.now }
-            ensures { WorksAt office.entry.now.rota.now
+            ensures { WorksAt office.entry.now.rotas.now
                 (three office.entry.now.job.now office.entry.now.cache.now
                 office.entry.now.crew.now) worker.exit.now }
         { worker.work(rt, office, gate) },

@@ -4,6 +4,7 @@
 mod alone;
 mod carried;
 mod carrying;
+mod course;
 mod crew;
 mod gate;
 mod gathering;
@@ -14,6 +15,7 @@ mod port;
 mod rota;
 mod rule;
 mod seat;
+mod seating;
 #[cfg(test)]
 mod tests;
 mod three;

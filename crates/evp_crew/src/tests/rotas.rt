@@ -2,10 +2,9 @@
 
 ghost use Rattle.evp_crew.specs.Rota.{three_of, ServesIn};
 ghost use Rattle.evp_crew.specs.Rule.{IsServed};
-ghost use Rattle.std.specs.Prelude.{All};
+ghost use Rattle.std.specs.Prelude.{◌≡◌, All};
 
 use super::{ONE, TERMINAL, document_of, job_of};
-use crate::carrying::put_all;
 use crate::{Crew, Rota, RotaPass, Seat};
 use evp_base::Memory;
 use evp_cache::PlanCache;
@@ -26,6 +25,20 @@ fn taken<R: Wait>(rt: &R, rota: &Rota, pass: &mut RotaPass) -> Option<u16>
         Some(seat) => Some(seat.number()),
         None => None,
     }
+}
+
+// Puts seats into the rota. False where one was handed back.
+fn put_all<R: Wait>(rt: &R, rota: &Rota, pass: &mut RotaPass, seats: Vec<Seat>) -> bool
+    requires pass { ServesIn rota.now pass.old }
+    requires seats { All (IsServed (three_of pass.old)) seats.items }
+    ensures pass { ServesIn rota.now pass.new × (three_of pass.new ≡ three_of pass.old) }
+{
+    for seat in seats {
+        if rota.put(rt, pass, seat).is_err() {
+            return false;
+        }
+    }
+    true
 }
 
 // What three takes by a new pass give behind the puts of these seats.

@@ -3,7 +3,7 @@ use Rattle.std.specs.Prelude.{All}
 use Rattle.evp_crew.specs.Rota.{three_of}
 use Rattle.evp_crew.specs.Rule.{IsServed}
 use Rattle.evp_crew.specs.Seat.{SeatShape}
-use Rattle.evp_crew.proofs.carrying.put_all.Goals as goal
+use Rattle.evp_crew.proofs.tests.rotas.put_all.Goals as goal
 
 pub loop-seat-preserved : goal.loop-seat-preserved
 loop-seat-preserved g c =

@@ -3,7 +3,7 @@ use Rattle.std.specs.Prelude.{All}
 use Rattle.std.specs.Vec.Iter.{into_iter_items}
 use Rattle.evp_crew.specs.Rota.{three_of, ServesIn}
 use Rattle.evp_crew.specs.Rule.{IsServed}
-use Rattle.evp_crew.proofs.carrying.put_all.Given as goal
+use Rattle.evp_crew.proofs.tests.rotas.put_all.Given as goal
 
 abbrev pub invariant-loop-seat : goal.invariant-loop-seat
 invariant-loop-seat g l =

@@ -1,10 +1,9 @@
 -- The four sources of the large job, each filled with its file.
-use Rattle.std.proofs.Common.{◌≡◌, ℕ, ◌+◌, List, [], ◌∷◌, length, map, Some, refl, sym, ap, ◌∙◌, subst, arith}
+use Rattle.std.proofs.Common.{◌≡◌, ℕ, ◌+◌, List, [], ◌∷◌, length, map, Some, refl, sym, ap, ◌∙◌, arith}
 use Rattle.std.proofs.lemmas.List.{length-map}
 use Rattle.std.proofs.lemmas.List.Elements.{All-nil, All-cons}
 use Rattle.std.specs.List.{flat_map}
 use Rattle.std.specs.Prelude.{slice_get}
-use Rattle.evp_file.specs.declared.file.FileFormat.{FileFormat}
 use Rattle.evp_file.specs.declared.file.FileFormat.TheVariants.{Own}
 use Rattle.evp_file.specs.declared.file.KnownFormat.{KnownFormat}
 use Rattle.evp_file.specs.declared.file.RecordFile.{RecordFile}
@@ -12,7 +11,6 @@ use Rattle.evp_file.specs.Whole.{IsWhole}
 use Rattle.evp_format.specs.Layout.{Layout}
 use Rattle.evp_gen.specs.Senders.{sent_bytes}
 use Rattle.evp_job.specs.declared.job_text.JobText.{JobText}
-use Rattle.evp_job.specs.declared.sources.SourceText.{SourceText}
 use Rattle.evp_job.specs.Filling.{bare_source, own_layout, own_layouts, source_with_file, sources_with_files}
 use Rattle.evp_job.specs.Stated.{layouts_of}
 use Rattle.evp_profile.specs.declared.profile.Profile.TheVariants.{Le64, Le32, Be64, Be32}

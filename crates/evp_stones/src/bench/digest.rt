@@ -1,16 +1,17 @@
 //! The digest of a report. With several workers the texts of a round's routes are made by threads
-//! while the round before is hashed.
-ghost use Rattle.std.specs.Prelude.{◌≡◌, ◌<◌, ◌++◌, IfOk};
+//! while the round before is hashed, and those of the first round while its first lines are hashed.
+ghost use Rattle.std.specs.Prelude.{◌≡◌, ◌+◌, ◌<◌, ◌≤◌, ◌^◌, ◌++◌, IfOk, length};
 ghost use Rattle.std.specs.List.{flat_map};
 ghost use Rattle.std.specs.Thread.{IsSync};
 ghost use Rattle.sha2.specs.Sha256.{sha256};
-ghost use Rattle.evp_report.specs.Report.{report, round_line, routes_lines};
+ghost use Rattle.evp_report.specs.Report.{report, round_line, routes_lines, StandFrom};
 ghost use Rattle.evp_stones.specs.Texts.{text_of};
 
 use super::hashing::Hashing;
-use super::round_texts::round_texts;
+use super::round_texts::{parting, texts_of};
 use crate::carried::Carried;
 use evp_base::Memory;
+use evp_graph::Route;
 use evp_report::write_round_line;
 use std::alloc::Global;
 use std::marker::Model;
@@ -48,7 +49,7 @@ impl Underway {
         }
     }
 
-    // With the lines of a round behind it, which are made by so many threads.
+    // With the lines of a round behind it, by so many threads.
     fn with_round<R: Threads + Sync>(
         self,
         rt: &R,
@@ -57,7 +58,7 @@ impl Underway {
         round: usize,
         threads: usize,
     ) -> Result<Underway, Memory>
-        requires { 0 < threads }
+        requires { 1 < threads }
         ensures { IfOk result (λ next. next
             ≡ self ++ round_lines round (map (told_of carried.now) carried.now.routes)) }
     {
@@ -91,9 +92,7 @@ pub(super) fn report_digest<R: Threads + Sync>(
     }
     let mut underway = Underway::new(alloc);
     for round in 0..carried.rounds() {
-        // Nothing is hashed beside the first round.
-        let makers = if round == 0 { threads } else { threads - 1 };
-        underway = underway.with_round(rt, alloc, carried, round, makers)?;
+        underway = underway.with_round(rt, alloc, carried, round, threads)?;
     }
     Ok(underway.digest())
 }
@@ -109,8 +108,9 @@ fn digest_alone(carried: &Carried) -> [u8; 32]
     }
 }
 
-// What was hashed with these texts and the round's line behind it, and the texts of the round's
-// routes. This thread begins all others: those that a new thread begins often wait for it.
+// What was hashed with these texts, the round's line and the lines of its first routes behind it,
+// and the texts of its other routes. This thread begins all others: those that a new thread begins
+// often wait for it.
 fn beside<R: Threads + Sync>(
     rt: &R,
     alloc: Global,
@@ -120,22 +120,42 @@ fn beside<R: Threads + Sync>(
     hashed: Hashing,
     texts: Vec<Vec<u8>>,
 ) -> (Hashing, Result<Vec<Vec<u8>>, Memory>)
-    requires { 0 < threads }
-    ensures hashed { result.0 ≡ hashed ++ flat_map text_of texts.items ++ round_line round }
-    ensures texts { IfOk result.1 (λ next. flat_map text_of next.items
-        ≡ routes_lines carried.now round carried.now.routes) }
+    requires { 1 < threads }
+    ensures { IfOk result.1 (λ next. result.0 ++ flat_map text_of next.items
+        ≡ hashed ++ flat_map text_of texts.items
+        ++ (round_line round ++ routes_lines carried.now round carried.now.routes)) }
 {
+    let makers = threads - 1;
+    let middle = hashed_at_once(carried, round, threads);
+    let (first, rest) = carried.all_routes().split_at(middle);
     thread::join(
         rt,
         move || -> Hashing
-            ensures { result ≡ hashed ++ flat_map text_of texts.items ++ round_line round }
-        { with_line(with_texts(hashed, &texts), round) },
+            requires { StandFrom carried.now.routes 0 first.now × (length first.now < 2 ^ 64) }
+            ensures { result ≡ hashed ++ flat_map text_of texts.items ++ round_line round
+                ++ routes_lines carried.entry.now round first.entry.now }
+        {
+            let hashed = with_line(with_texts(hashed, &texts), round);
+            with_routes(hashed, carried, round, first)
+        },
         || -> Result<Vec<Vec<u8>>, Memory>
-            requires { IsSync R.row × (0 < threads) }
+            requires { IsSync R.row × ((0 < makers) × (StandFrom carried.now.routes middle rest.now
+                × (middle + length rest.now < 2 ^ 64))) }
             ensures { IfOk result (λ next. flat_map text_of next.items
-                ≡ routes_lines carried.entry.now round carried.entry.now.routes) }
-        { round_texts(rt, alloc, carried, round, threads) },
+                ≡ routes_lines carried.entry.now round rest.entry.now) }
+        { texts_of(rt, alloc, carried, round, middle, rest, makers) },
     )
+}
+
+// How many routes of a round are hashed as they are written: as many of the first round as each
+// thread has, since nothing stands before it that could be hashed meanwhile.
+fn hashed_at_once(carried: &Carried, round: usize, threads: usize) -> usize
+    ensures { result ≤ length carried.now.routes }
+{
+    if round > 0 {
+        return 0;
+    }
+    parting(carried, round, 0, carried.all_routes(), threads)
 }
 
 // These texts behind what was hashed.
@@ -153,6 +173,18 @@ fn with_line(mut hashed: Hashing, round: usize) -> Hashing
     ensures { result ≡ hashed ++ round_line round }
 {
     match write_round_line(round, &mut hashed) {
+        Ok(()) => hashed,
+        Err(_) => unreachable!(),
+    }
+}
+
+// The lines of a round's first routes behind what was hashed.
+fn with_routes(mut hashed: Hashing, carried: &Carried, round: usize, first: &[Route]) -> Hashing
+    requires stand { StandFrom carried.now.routes 0 first.now }
+    requires few { length first.now < 2 ^ 64 }
+    ensures { result ≡ hashed ++ routes_lines carried.now round first.now }
+{
+    match carried.write_routes(round, 0, first, &mut hashed) {
         Ok(()) => hashed,
         Err(_) => unreachable!(),
     }

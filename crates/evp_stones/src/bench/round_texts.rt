@@ -13,26 +13,11 @@ use std::alloc::Global;
 use std::thread;
 use std::thread::Threads;
 
-/// The texts of a round's routes, one behind the other, made by so many threads.
-pub(super) fn round_texts<R: Threads + Sync>(
-    rt: &R,
-    alloc: Global,
-    carried: &Carried,
-    round: usize,
-    threads: usize,
-) -> Result<Vec<Vec<u8>>, Memory>
-    requires { 0 < threads }
-    ensures { IfOk result (λ texts. flat_map text_of texts.items
-        ≡ routes_lines carried.now round carried.now.routes) }
-{
-    texts_of(rt, alloc, carried, round, 0, carried.all_routes(), threads)
-}
-
-// The texts of some routes in a round; the routes are those of the job from number `from` on. A new
-// thread makes that of the first routes, and this one begins all others too: one that a new thread
-// begins often waits for it. Each text names about as many records.
+/// The texts of some routes in a round; the routes are those of the job from number `from` on. A new
+/// thread makes that of the first routes, and this one begins all others too: one that a new thread
+/// begins often waits for it. Each text names about as many records.
 #[cycle(texts)]
-fn texts_of<R: Threads + Sync>(
+pub(super) fn texts_of<R: Threads + Sync>(
     rt: &R,
     alloc: Global,
     carried: &Carried,
@@ -79,9 +64,15 @@ fn with_first(text: Vec<u8>, mut texts: Vec<Vec<u8>>) -> Result<Vec<Vec<u8>>, Me
     Ok(texts)
 }
 
-// Behind how many of these routes the first of so many parts ends, so that each names about as many
-// records in a round. Any place would do: it only sets how long each thread works.
-fn parting(carried: &Carried, round: usize, from: usize, routes: &[Route], parts: usize) -> usize
+/// Behind how many of these routes the first of so many parts ends, so that each names about as many
+/// records in a round. Any place would do: it only sets how long each thread works.
+pub(super) fn parting(
+    carried: &Carried,
+    round: usize,
+    from: usize,
+    routes: &[Route],
+    parts: usize,
+) -> usize
     requires { from + length routes.now < 2 ^ 64 }
     ensures { result ≤ length routes.now }
 {

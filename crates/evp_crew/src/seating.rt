@@ -15,10 +15,6 @@ use evp_stone::Job;
 use std::alloc::Global;
 use std::sync::Wait;
 
-// How many seats a rota has room for. One would do: with more, no two rotas lie in one line of a
-// processor's memory, so that workers at different seats don't hinder each other.
-const ROOM: usize = 16;
-
 /// A rota for each of these seats, with the seat in it, and a desk at each. None where a seat was
 /// handed back.
 pub(crate) fn rotas_of<R: Wait>(
@@ -35,12 +31,12 @@ pub(crate) fn rotas_of<R: Wait>(
     ensures each { IfOk result (λ found. IfSome found (λ made.
         length made.0.items ≡ length seats.items)) }
     ensures back { IfOk result (λ found. IfNone found
-        (Held 16 (Seen (Some (three job.now cache.now crew.now))))) }
+        (Held 1 (Seen (Some (three job.now cache.now crew.now))))) }
 {
     let mut rotas = Vec::with_capacity(alloc, seats.len())?;
     let mut desks = Vec::with_capacity(alloc, seats.len())?;
     for seat in seats {
-        let (rota, mut pass) = Rota::with_room(alloc, ROOM, job, cache, crew)?;
+        let (rota, mut pass) = Rota::with_room(alloc, 1, job, cache, crew)?;
         if let Err(_seat) = rota.put(rt, &mut pass, seat) {
             return Ok(None);
         }

@@ -24,3 +24,4 @@ pub mod ViewBack
 pub mod ViewPacked
 pub mod ViewTyped
 pub mod ViewTypedAll
+mod HeldWritten

@@ -6,6 +6,7 @@ pub mod NumberPieces
 pub mod Onto
 pub mod Owned
 pub mod OwnedBytes
+pub mod HeldBytes
 pub mod Parts
 pub mod Record
 pub mod Samples

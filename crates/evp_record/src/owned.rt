@@ -4,7 +4,7 @@ ghost use Rattle.std.specs.Prelude.{◌≡◌, ◌^◌, ◌<◌, Some, length, s
 ghost use Rattle.evp_record.specs.Owned.{owned_of, HasValueIn, value_in};
 ghost use Rattle.evp_record.specs.Record.{record_of, value_of};
 
-use crate::Checked;
+use crate::{Checked, PackedBytes};
 use evp_format::Format;
 use std::marker::Model;
 
@@ -12,7 +12,7 @@ use std::marker::Model;
 #[derive(Debug, Drop)]
 pub struct Owned {
     format: u16,
-    bytes: Vec<u8>,
+    bytes: PackedBytes,
 }
 
 impl Model for Owned {
@@ -21,9 +21,9 @@ impl Model for Owned {
 
     ghost Value = { OwnedBytes };
 
-    ghost view = { λ o. record { format = o.format; bytes = o.bytes.items } };
+    ghost view = { λ o. record { format = o.format; bytes = o.bytes } };
 
-    ghost invariant = { λ o. length o.bytes.items < 2 ^ 32 };
+    ghost invariant = { λ o. length o.bytes < 2 ^ 32 };
 }
 
 impl Owned {
@@ -31,6 +31,15 @@ impl Owned {
     pub fn new(format: u16, bytes: Vec<u8>) -> Self
         requires { length bytes.items < 2 ^ 32 }
         ensures { result ≡ owned_of format bytes.items }
+    {
+        Owned::packed(format, PackedBytes::of(bytes))
+    }
+
+    /// The same of bytes that may lie in the record itself.
+    #[inline(always)]
+    pub fn packed(format: u16, bytes: PackedBytes) -> Self
+        requires { length bytes < 2 ^ 32 }
+        ensures { result ≡ owned_of format bytes }
     {
         Owned { format, bytes }
     }
@@ -48,13 +57,6 @@ impl Owned {
         ensures short { length self.now.bytes < 2 ^ 32 }
     {
         self.bytes.as_slice()
-    }
-
-    /// The bytes as they were handed in. Takes no memory.
-    pub fn into_bytes(self) -> Vec<u8>
-        ensures { result.items ≡ self.bytes }
-    {
-        self.bytes
     }
 
     /// The record, for bytes that have a value in their format of these. Doesn't walk the bytes

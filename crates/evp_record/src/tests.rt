@@ -4,6 +4,7 @@ ghost use Rattle.std.specs.Prelude.{◌≡◌};
 ghost use Rattle.evp_record.specs.Samples.{list_description, list_bytes};
 
 use super::*;
+use evp_base::Order;
 use evp_format::{BrokenText, Items, Members, Value, read_description};
 use std::alloc::{AllocError, Global};
 use std::test::Fail;
@@ -279,6 +280,32 @@ fn owned_records(rt: HostRuntime) -> Result<(), Fail> {
     assert_eq!(rt; item.copy().bytes(), owned.bytes());
     assert!(rt; item.format().types().len() == 1);
     assert_eq!(rt; owned.format(), 0);
-    assert_eq!(rt; owned.into_bytes().as_slice(), b"\x04\0\0\0ab\0".as_slice());
+    assert_eq!(rt; owned.bytes(), b"\x04\0\0\0ab\0".as_slice());
+    Ok(())
+}
+
+// Whether a copy of so many bytes is as long, and all of them are the same.
+fn copies(alloc: Global, size: usize) -> bool {
+    let Ok(bytes) = vec![in alloc; 7u8; size] else {
+        return false;
+    };
+    match PackedBytes::copied(alloc, &bytes) {
+        Ok(copy) => copy.as_slice() == bytes.as_slice(),
+        Err(_) => false,
+    }
+}
+
+#[test]
+fn bytes_in_place_and_apart(rt: HostRuntime) -> Result<(), Fail> {
+    let alloc = rt.alloc();
+    for size in [0, 1, 71, 72, 73, 200] {
+        assert!(rt; copies(alloc, size));
+    }
+    let mut short = PackedBytes::copied(alloc, b"\x09\x09\x09\x09")?;
+    short.put_number(1, Order::Big, 2, 258);
+    assert_eq!(rt; short.as_slice(), b"\x09\x01\x02\x09".as_slice());
+    let mut long = PackedBytes::of(Vec::from_slice(alloc, b"\x09\x09\x09\x09")?);
+    long.put_number(2, Order::Little, 2, -2);
+    assert_eq!(rt; long.as_slice(), b"\x09\x09\xfe\xff".as_slice());
     Ok(())
 }

@@ -1,8 +1,9 @@
 -- What `run` and `pass` hand over: the packed conversion, or the record's own bytes.
-use Rattle.std.proofs.Common.{◌≡◌, ℕ, ◌^◌, ◌<◌, List, ◌++◌, length, drop, Ok, sym, ap, ◌∙◌}
+use Rattle.std.proofs.Common.{◌≡◌, ℕ, ◌^◌, ◌<◌, ◌≤◌, List, ◌++◌, length, drop, Ok, sym, ap, ◌∙◌}
 use Rattle.std.proofs.Common.{subst, arith}
-use Rattle.std.specs.Prelude.{IsTrue, false, All, take}
+use Rattle.std.specs.Prelude.{IsTrue, false, All, take, replicate}
 use Rattle.std.proofs.Math.Seq.{take-append_seam}
+use Rattle.std.proofs.lemmas.List.{take-replicate, length-replicate}
 use Rattle.std.specs.Cow.{cow_slice_items, IsBorrowedSlice, IsOwnedSlice}
 use Rattle.std.specs.declared.borrow.CowSlice.{CowSlice}
 use Rattle.std.specs.declared.borrow.CowSlice.TheVariants.{Borrowed, Owned}
@@ -46,6 +47,14 @@ conversion_of plan held bytes size are long small to limit stands found =
 pub in_buffer : (len : ℕ) (items new : List ℕ) → length new ≡ len → take len (new ++ drop (length new) items) ≡ new
 in_buffer len items new long = ap (λ (n : ℕ). take n (new ++ drop (length new) items)) (sym long)
     ∙ take-append_seam new (drop (length new) items)
+
+-- the front of a list of zeros
+pub zero_front : (size room : ℕ) (items : List ℕ) → size ≤ room → items ≡ take size (replicate room 0) → items ≡ replicate size 0
+zero_front size room items within is = is ∙ take-replicate size room 0 within
+
+-- zeros, by how many they are
+pub zeros_by_length : (size : ℕ) (items : List ℕ) → items ≡ replicate size 0 → items ≡ replicate (length items) 0
+zeros_by_length size items is = is ∙ ap (λ (n : ℕ). replicate n 0) (sym (ap length is ∙ length-replicate size 0))
 
 -- what it needs of a record that its value is one of its format
 pub record IsTyped (held : Record) : Type 0 where

@@ -20,6 +20,6 @@ mod running;
 mod sender;
 
 pub use convert_fault::ConvertFault;
-pub use passing::{pass, run};
+pub use passing::{pass, run, run_quickly};
 pub use run_fault::RunFault;
 pub use running::{measure, run_into};

@@ -1,11 +1,10 @@
 -- What a plan that was found does to a record.
-use Rattle.std.proofs.Common.{◌≡◌, ℕ, ◌<◌, List, Ok, Some, None, Option, Result, sym, ap, refl, ◌∙◌, subst, slice_get, get_or, arith}
+use Rattle.std.proofs.Common.{◌≡◌, ℕ, ◌<◌, List, Some, None, Option, sym, ap, refl, ◌∙◌, subst, slice_get, get_or}
 use Rattle.std.proofs.Common.{length}
 use Rattle.std.proofs.lemmas.Option.{slice_get_within, slice_get_read}
 use Rattle.std.specs.Cow.{cow_slice_items}
 use Rattle.std.specs.declared.borrow.CowSlice.{CowSlice}
 use Rattle.evp_action.specs.declared.acted.Reason.{Reason}
-use Rattle.evp_action.specs.declared.acted.Reason.TheVariants as reason
 use Rattle.evp_action.specs.declared.refusal.Refusal.{Refusal}
 use Rattle.evp_action.specs.declared.refusal.Refusal.TheVariants.{Cause, Memory}
 use Rattle.evp_action.specs.Acting.{converting, then_converted}
@@ -17,11 +16,10 @@ use Rattle.evp_cache.specs.declared.found.Found.TheVariants.{Plan, Clash}
 use Rattle.evp_cache.specs.Finding.{IsFound}
 use Rattle.evp_cache.specs.Known.{IsFoundFor}
 use Rattle.evp_format.specs.Clashing.{clash}
-use Rattle.evp_format.specs.Conversion.{Answer, clashes, converted, unfit_at, large_at, conversion, answer_of, unless_clash}
-use Rattle.evp_format.specs.Converting.{Made, made, unfit, large, convert}
+use Rattle.evp_format.specs.Conversion.{Answer, clashes, conversion, answer_of, unless_clash}
+use Rattle.evp_format.specs.Converting.{Made, made, convert}
 use Rattle.evp_format.specs.Datum.{Datum}
 use Rattle.evp_format.specs.Layout.{Layout}
-use Rattle.evp_format.specs.Path.{path_of}
 use Rattle.evp_format.specs.Viewing.{view}
 use Rattle.evp_plan.specs.Planned.{Planned, StandsFor}
 use Rattle.evp_record.specs.Owned.{owned_of}

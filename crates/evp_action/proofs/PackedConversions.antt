@@ -1,19 +1,21 @@
 -- What a plan that was found packs.
-use Rattle.std.proofs.Common.{◌≡◌, ℕ, ◌<◌, List, Some, subst, refl, sym, arith}
-use Rattle.std.specs.Prelude.{All}
-use Rattle.evp_action.specs.Converted.{IsPackedInto, IsPackedConversion, plan_of}
+use Rattle.std.proofs.Common.{◌≡◌, ℕ, ◌<◌, ◌^◌, List, Ok, Some, length, ap, ◌∙◌, subst, sym}
+use Rattle.std.specs.Prelude.{All, Option, None, IfSome}
+use Rattle.evp_action.specs.Converted.{IsInto, IsPackedInto, IsPackedConversion, plan_of}
 use Rattle.evp_action.specs.Performed.{HasValue}
-use Rattle.evp_action.proofs.Conversions.{IsLent, HasPlan, has_plan, value_is, converted_by}
+use Rattle.evp_action.proofs.Conversions.{IsLent, has_plan, value_is, converted_by, some_same}
 use Rattle.evp_action.proofs.PackedRecords.{held_is_typed, value_is_record, converted_is_packed}
+use Rattle.evp_action.proofs.PackedRecords.{packed_viewed, packed_short}
 use Rattle.evp_cache.specs.declared.found.Found.{Found}
 use Rattle.evp_cache.specs.Known.{IsFoundFor}
-use Rattle.evp_format.specs.Converting.{Made, made, convert}
+use Rattle.evp_format.specs.Converting.{made, convert}
 use Rattle.evp_format.specs.Datum.{Datum, rec, entries_of}
 use Rattle.evp_format.specs.Layout.{Layout}
-use Rattle.evp_format.specs.Typed.{IsOf}
+use Rattle.evp_format.specs.Viewing.{view}
 use Rattle.evp_format.specs.WellLaid.{IsWellLaid}
 use Rattle.evp_format.proofs.MadeAll.{converted-receivers}
 use Rattle.evp_plan.specs.Planned.{Planned, StandsFor}
+use Rattle.evp_record.specs.Owned.{owned_of}
 use Rattle.evp_record.specs.OwnedBytes.{OwnedBytes}
 use Rattle.evp_record.specs.Record.{Record, IsRecord, value_of}
 use Rattle.evp_runner.specs.Running.{IsConversion}
@@ -49,3 +51,29 @@ packed_into formats owned to limit held found plan bytes value lent is there pac
           (value_is formats owned held value lent has) done.converted;
       packed = record { layout = known.receiver; there = known.receiver_is; laid = known.stands.laid; packed = done.packed };
     }
+
+-- a record of the packed conversion is one of the converted value
+pub packed_is_into : (formats : List Layout) (from to limit : ℕ) (value : Datum) (bytes : List ℕ) (result : OwnedBytes)
+    → IsPackedInto formats from to limit value bytes → result ≡ owned_of to bytes → IsInto formats from to limit value result
+packed_is_into formats from to limit value bytes result packs result_is =
+    let into = packs.packed in
+    let same : into.layout ≡ packs.converted.receiver = some_same _ _ _ into.there packs.converted.receiver_is in
+    record {
+      value_made = rec packs.fields;
+      converted = packs.converted;
+      numbered = ap (λ (o : OwnedBytes). o.format) result_is;
+      viewed = ap (λ (o : OwnedBytes). view packs.converted.receiver o.bytes) result_is
+          ∙ subst (λ (l : Layout). view l bytes ≡ Ok (rec packs.fields)) same
+          (packed_viewed into.layout packs.fields bytes into.laid into.packed);
+    }
+
+-- and is short
+pub packed_into_short : (formats : List Layout) (from to limit : ℕ) (value : Datum) (bytes : List ℕ)
+    → IsPackedInto formats from to limit value bytes → length bytes < 2 ^ 32
+packed_into_short formats from to limit value bytes packs =
+    packed_short packs.packed.layout packs.fields bytes packs.packed.laid packs.packed.packed
+
+-- what holds of a value that is there holds of it in other words
+pub some_weaker : {A : Type 0} (P Q : A → Type 0) (o : Option A) → ((a : A) → P a → Q a) → IfSome o P → IfSome o Q
+some_weaker P Q (Some a) weaker held = weaker a held
+some_weaker P Q None weaker held = held

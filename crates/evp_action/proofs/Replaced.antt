@@ -2,8 +2,7 @@
 use Rattle.std.proofs.Common.{◌≡◌, ℕ, ◌+◌, ◌-◌, ◌≤◌, List, [], ◌∷◌, ◌++◌, length, take, drop, inl, inr, refl, sym, ap, ◌∙◌, arith}
 use Rattle.std.proofs.Common.{append_assoc, length-append, length-drop, take-append-drop}
 use Rattle.std.proofs.Math.Seq.{drop-append_seam, take-append_seam}
-use Rattle.std.proofs.lemmas.List.{drop-drop, length-take-le}
-use borrow.Rule.Slice.PartMut.{put_mid}
+use Rattle.std.proofs.lemmas.List.{length-take-le}
 use Rattle.evp_format.specs.Bytes.{put_at}
 use Rattle.evp_format.specs.Packing.{Piece, put_pieces}
 use Rattle.evp_record.proofs.Onto.{AreInside, length-put_at}
@@ -117,11 +116,3 @@ put_first at old new pieces bytes same apart inside =
     sym (put_behind pieces (piece_at at new) (put_at at old bytes) (each_map _ _ pieces still apart.0)
     (each_map _ _ pieces (λ (p : Piece) ends. omega (arith, ends, kept)) inside.1) (omega (arith, inside.0, kept, same))
     ∙ ap (put_pieces pieces) (put_twice at old new bytes same (omega (arith, inside.0, same))))
-
--- bytes written over a part of a slice
-pub put_part : (at size : ℕ) (new bytes : List ℕ) → length new ≡ size → put_at at new bytes ≡ put_mid at (at + size - at) bytes new
-put_part at size new bytes count =
-    let long : at + size - at ≡ length new = omega (arith, count) in
-    append_assoc (take at bytes) new (drop (at + length new) bytes)
-    ∙ ap (λ (rest : List ℕ). take at bytes ++ (new ++ rest)) (sym (drop-drop (length new) at bytes))
-    ∙ ap (λ (n : ℕ). take at bytes ++ (new ++ drop n (drop at bytes))) (sym long)

@@ -1,6 +1,6 @@
 -- Settings, one after another.
-use Rattle.std.proofs.Common.{◌≡◌, ℕ, ◌+◌, ◌<◌, ◌≤◌, List, [], ◌∷◌, suc, add-one, drop-cons, length, drop, get_or, sym, ap, refl, ◌∙◌}
-use Rattle.std.proofs.Common.{subst, arith}
+use Rattle.std.proofs.Common.{◌≡◌, ℕ, ◌+◌, ◌<◌, List, [], ◌∷◌, suc, add-one, drop-cons, length, drop, get_or, sym, ap, refl, ◌∙◌}
+use Rattle.std.proofs.Common.{subst}
 use Rattle.evp_action.specs.declared.action.Setting.{Setting}
 use Rattle.evp_action.specs.declared.refusal.Refusal.{Refusal}
 use Rattle.evp_action.specs.Acting.{set_from}

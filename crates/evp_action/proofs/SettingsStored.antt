@@ -1,7 +1,7 @@
 -- One setting.
-use Rattle.std.proofs.Common.{◌≡◌, ℕ, ◌-◌, Bool, true, false, List, [], ◌∷◌, length, take, Result, Ok, Err, Option, Some, sym, ap, refl}
-use Rattle.std.proofs.Common.{◌∙◌, subst, IsTrue}
-use Rattle.std.specs.Prelude.{ℤ, ◌↔◌, IfSome}
+use Rattle.std.proofs.Common.{◌≡◌, ℕ, ◌-◌, Bool, true, false, List, [], ◌∷◌, length, Result, Ok, Option, Some, sym, ap, refl}
+use Rattle.std.proofs.Common.{◌∙◌, subst}
+use Rattle.std.specs.Prelude.{ℤ, IfSome}
 use Rattle.evp_action.specs.declared.acted.Reason.TheVariants as reason
 use Rattle.evp_action.specs.declared.action.Setting.{Setting}
 use Rattle.evp_action.specs.Acting.{then_number, stored, with_number, set_from}
@@ -12,7 +12,7 @@ use Rattle.evp_action.specs.Storing.{IsPacked, FitsField}
 use Rattle.evp_base.specs.declared.kind.Kind.{Kind}
 use Rattle.evp_base.specs.declared.step.Step.{Step}
 use Rattle.evp_base.specs.declared.step.Step.TheVariants as step
-use Rattle.evp_base.specs.Numbers.{is_in_range, InRange}
+use Rattle.evp_base.specs.Numbers.{is_in_range}
 use Rattle.evp_eval.specs.declared.fault.EvalFault.{EvalFault}
 use Rattle.evp_eval.specs.Value.{value as value_over}
 use Rattle.evp_format.specs.declared.field.Base.{Base}

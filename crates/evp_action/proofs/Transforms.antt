@@ -1,6 +1,6 @@
 -- Transforms.
-use Rattle.std.proofs.Common.{◌≡◌, ℕ, ◌+◌, ◌^◌, ◌<◌, Bool, true, false, cond, List, [], ◌∷◌, ◌++◌, length, take, drop, Result, Ok, Err}
-use Rattle.std.proofs.Common.{Option, Some, sym, ap, refl, ◌∙◌, subst, slice_get, arith}
+use Rattle.std.proofs.Common.{◌≡◌, ℕ, Bool, true, cond, List, [], ◌∷◌, ◌++◌, length, take, drop, Result}
+use Rattle.std.proofs.Common.{Option, Some, sym, ap, ◌∙◌, subst, slice_get, arith}
 use Rattle.std.specs.Prelude.{All}
 use Rattle.std.proofs.Math.Seq.{take-append_seam}
 use Rattle.std.proofs.lemmas.List.Elements.{All-weaker}
@@ -11,18 +11,17 @@ use Rattle.evp_action.specs.declared.acted.Acted.{Acted}
 use Rattle.evp_action.specs.Acting.{converting, transformed, transforms, set_from}
 use Rattle.evp_action.specs.Agreement.{AreSettings, IsSetting, IsSettable}
 use Rattle.evp_action.specs.Asking.{converts, is_converted, transform_pairs, Keeps, Asks, AsksOnly, BuildsFor}
-use Rattle.evp_action.specs.Converted.{IsConverted, IsInto, IsPackedIn, IsPackedInto, IsCause, IsRefused, spare}
+use Rattle.evp_action.specs.Converted.{IsConverted, IsInto, IsPackedIn, IsPackedInto, IsCause, IsRefused}
 use Rattle.evp_action.specs.Outcome.{Outcome, sent}
 use Rattle.evp_action.specs.Performed.{HasValue, IsComeOf}
 use Rattle.evp_action.specs.Settings.{CanSet, AreSet, StopsBy}
-use Rattle.evp_action.specs.Storing.{IsPacked, IsPackedRecord}
-use Rattle.evp_action.specs.Working.{IsAnswer, Works}
-use Rattle.evp_action.proofs.Conversions.{some_same, goes_on, lent_by, value_is}
-use Rattle.evp_action.proofs.PackedRecords.{packed_viewed, packed_short}
-use Rattle.evp_action.proofs.Works.{into_value, refused_at, asks_one, asks_both}
+use Rattle.evp_action.specs.Storing.{IsPacked}
+use Rattle.evp_action.specs.Working.{IsAnswer}
+use Rattle.evp_action.proofs.Conversions.{some_same, goes_on}
+use Rattle.evp_action.proofs.PackedRecords.{packed_viewed}
+use Rattle.evp_action.proofs.Works.{into_value, refused_at, asks_both}
 use Rattle.evp_cache.specs.Known.{Cells, Known}
-use Rattle.evp_format.specs.Conversion.{Answer, conversion}
-use Rattle.evp_format.specs.Datum.{Datum, rec, Entries, entries_of}
+use Rattle.evp_format.specs.Datum.{Datum, rec, Entries}
 use Rattle.evp_format.specs.Layout.{Layout}
 use Rattle.evp_format.specs.Viewing.{view}
 use Rattle.evp_format.specs.WellLaid.{IsWellLaid}

@@ -1,6 +1,6 @@
 -- What an action's work gives, from what its parts give.
-use Rattle.std.proofs.Common.{◌≡◌, ℕ, ◌+◌, ◌<◌, ◌≤◌, Bool, true, false, List, [], ◌∷◌, length, Result, Ok, Err, Option, Some, None, sym}
-use Rattle.std.proofs.Common.{ap, refl, ◌∙◌, subst, slice_get, arith, slice_index_or}
+use Rattle.std.proofs.Common.{◌≡◌, ℕ, ◌<◌, List, [], ◌∷◌, Result, Ok, Err, Option, Some, None, sym}
+use Rattle.std.proofs.Common.{ap, refl, ◌∙◌, subst, slice_get, arith}
 use Rattle.std.proofs.lemmas.Bool.{false≢true}
 use Rattle.std.proofs.lemmas.Option.{slice_get_within}
 use Rattle.std.specs.List.{Contains}
@@ -11,8 +11,8 @@ use Rattle.evp_action.specs.declared.action.Action.{Action}
 use Rattle.evp_action.specs.declared.refusal.Refusal.{Refusal}
 use Rattle.evp_action.specs.declared.refusal.Refusal.TheVariants.{Cause, Memory}
 use Rattle.evp_action.specs.Acting.{act, converting}
-use Rattle.evp_action.specs.Asking.{converts, is_converted, pairs_of, transform_pairs, Keeps, Asks, AsksOnly, BuildsFor}
-use Rattle.evp_action.specs.Converted.{CanAsk, IsConverted, IsInto, IsCause, IsRefused, spare}
+use Rattle.evp_action.specs.Asking.{pairs_of, Keeps, Asks, AsksOnly, BuildsFor}
+use Rattle.evp_action.specs.Converted.{CanAsk, IsInto, IsCause, IsRefused, spare}
 use Rattle.evp_action.specs.Outcome.{Outcome, refused}
 use Rattle.evp_action.specs.Performed.{HasValue, IsComeOf, IsActed}
 use Rattle.evp_action.specs.Working.{IsAnswer, Works}
@@ -20,7 +20,6 @@ use Rattle.evp_action.proofs.Conversions.{goes_on}
 use Rattle.evp_cache.specs.declared.found.Found.{Found}
 use Rattle.evp_cache.specs.Known.{Cells, Known, found_for, IsCacheOf, IsPassOf}
 use Rattle.evp_format.specs.declared.broken.Broken.{Broken}
-use Rattle.evp_format.specs.Conversion.{Answer, converted, conversion}
 use Rattle.evp_format.specs.Datum.{Datum}
 use Rattle.evp_format.specs.Layout.{Layout}
 use Rattle.evp_format.specs.Viewing.{view}

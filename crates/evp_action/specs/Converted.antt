@@ -10,8 +10,8 @@ use Rattle.evp_action.specs.Outcome.{Outcome, refused}
 use Rattle.evp_action.specs.Storing.{IsPacked}
 use Rattle.evp_cache.specs.declared.found.Found.{Found}
 use Rattle.evp_cache.specs.declared.found.Found.TheVariants.{Plan, Clash}
-use Rattle.evp_cache.specs.Known.{Cells, Known, found_for, IsCacheOf, IsPassOf}
-use Rattle.evp_format.specs.Conversion.{Answer, converted, conversion}
+use Rattle.evp_cache.specs.Known.{Cells, Known, IsCacheOf, IsPassOf}
+use Rattle.evp_format.specs.Conversion.{converted, conversion}
 use Rattle.evp_format.specs.Converting.{made, convert}
 use Rattle.evp_format.specs.Datum.{Datum, rec, Entries}
 use Rattle.evp_format.specs.Layout.{Layout}

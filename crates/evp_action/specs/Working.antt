@@ -1,5 +1,5 @@
 -- All that doing an action with a record does, where a refusal isn't an answer yet.
-use Rattle.std.specs.Prelude.{◌≡◌, ℕ, List, Result, Ok, Err, ⊤}
+use Rattle.std.specs.Prelude.{ℕ, List, Result, Ok, Err}
 use Rattle.evp_action.specs.declared.acted.Acted.{Acted}
 use Rattle.evp_action.specs.declared.refusal.Refusal.{Refusal}
 use Rattle.evp_action.specs.Asking.{Keeps, Asks, BuildsFor}

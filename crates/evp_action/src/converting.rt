@@ -1,5 +1,5 @@
 //! Records in the format that an action names.
-ghost use Rattle.std.specs.Prelude.{◌≡◌, ◌<◌, ◌^◌, IfOk, IfErr, Some, length, slice_get};
+ghost use Rattle.std.specs.Prelude.{◌≡◌, ◌<◌, ◌^◌, IfOk, IfErr, IfSome, Some, length, slice_get};
 ghost use Rattle.std.specs.Arc.{arc_value};
 ghost use Rattle.std.specs.Cow.{cow_slice_items, IsBorrowedSlice};
 ghost use Rattle.evp_action.specs.Asking.{Keeps, AsksOnly, BuildsFor};
@@ -22,8 +22,8 @@ use evp_base::Memory;
 use evp_cache::{CachePass, Found, PlanCache};
 use evp_format::{Format, path_of};
 use evp_plan::{Builds, Plan};
-use evp_record::{Checked, Owned};
-use evp_runner::{RunFault, pass, run};
+use evp_record::{Checked, Owned, PackedBytes};
+use evp_runner::{RunFault, pass, run, run_quickly};
 use std::alloc::{AllocError, Global};
 use std::borrow::CowSlice;
 use std::sync::Arc;
@@ -87,6 +87,10 @@ impl<'a> Converter<'a> {
             cause) }
     {
         let plan = plan_in(found)?;
+        if !plan.alike() {
+            let bytes = self.packed_by(alloc, found, item, to)?;
+            return Ok(Arc::new(alloc, Owned::packed(to, bytes))?);
+        }
         match pass(alloc, plan, item.checked(self.formats), self.limit) {
             Ok(bytes) => Ok(handed_on(alloc, item, bytes, to)?),
             Err(fault) => {
@@ -104,13 +108,12 @@ impl<'a> Converter<'a> {
         builds: &mut Builds,
         item: &Owned,
         to: u16,
-    ) -> Result<Vec<u8>, Refusal>
+    ) -> Result<PackedBytes, Refusal>
         requires ask { CanAsk self.now.cache.now self.now.formats.now known.old item.now.format to }
         requires has { HasValueIn self.now.formats.now item.now }
         ensures made { IfOk result (λ bytes. (value : Datum)
             → HasValue self.now.formats.now item.now value
-            → IsPackedInto self.now.formats.now item.now.format to self.now.limit value
-            bytes.items) }
+            → IsPackedInto self.now.formats.now item.now.format to self.now.limit value bytes) }
         ensures cause { IfErr result (λ cause. (value : Datum)
             → HasValue self.now.formats.now item.now value
             → IsCause self.now.formats.now item.now.format to self.now.limit value cause) }
@@ -124,19 +127,47 @@ impl<'a> Converter<'a> {
     }
 
     // The packed record by what was found for the pair of its format and that of this number.
+    #[inline(always)]
     fn packed_by(
         &self,
         alloc: Global,
         found: &Found,
         item: &Owned,
         to: u16,
-    ) -> Result<Vec<u8>, Refusal>
+    ) -> Result<PackedBytes, Refusal>
         requires found { IsFoundFor self.now.formats.now item.now.format to found.now }
         requires has { HasValueIn self.now.formats.now item.now }
         ensures made { IfOk result (λ bytes. (value : Datum)
             → HasValue self.now.formats.now item.now value
-            → IsPackedInto self.now.formats.now item.now.format to self.now.limit value
-            bytes.items) }
+            → IsPackedInto self.now.formats.now item.now.format to self.now.limit value bytes) }
+        ensures cause { IfErr result (λ cause. (value : Datum)
+            → HasValue self.now.formats.now item.now value
+            → IsCause self.now.formats.now item.now.format to self.now.limit value cause) }
+    {
+        let plan = plan_in(found)?;
+        let checked = item.checked(self.formats);
+        let bytes = checked.bytes();
+        match packed_quickly(plan, &checked, bytes, self.limit) {
+            Some(packed) => Ok(packed),
+            None => self.packed_fully(alloc, found, item, to),
+        }
+    }
+
+    // The same by a plan that was found, with the cause of a refusal. Apart from it, since room for
+    // a fault is made of zeros first.
+    #[inline(never)]
+    fn packed_fully(
+        &self,
+        alloc: Global,
+        found: &Found,
+        item: &Owned,
+        to: u16,
+    ) -> Result<PackedBytes, Refusal>
+        requires found { IsFoundFor self.now.formats.now item.now.format to found.now }
+        requires has { HasValueIn self.now.formats.now item.now }
+        ensures made { IfOk result (λ bytes. (value : Datum)
+            → HasValue self.now.formats.now item.now value
+            → IsPackedInto self.now.formats.now item.now.format to self.now.limit value bytes) }
         ensures cause { IfErr result (λ cause. (value : Datum)
             → HasValue self.now.formats.now item.now value
             → IsCause self.now.formats.now item.now.format to self.now.limit value cause) }
@@ -145,7 +176,7 @@ impl<'a> Converter<'a> {
         let checked = item.checked(self.formats);
         let bytes = checked.bytes();
         match packed_record(alloc, plan, checked, bytes, self.limit) {
-            Ok(packed) => Ok(packed),
+            Ok(packed) => Ok(PackedBytes::of(packed)),
             Err(fault) => {
                 let receiver = &self.formats[usize::from(to)];
                 Err(Refusal::Cause(fault_reason(alloc, receiver, fault)?))
@@ -184,6 +215,18 @@ fn packed_record(
     run(alloc, plan, item, limit)
 }
 
+// The same, where it is easily made and short.
+#[inline(always)]
+fn packed_quickly(plan: &Plan, item: &Checked<'_>, bytes: &[u8], limit: u32) -> Option<PackedBytes>
+    requires own { bytes.now ≡ item.now.bytes }
+    requires plan_from { IsPlanFrom plan.now item.now.layout }
+    ensures { IfSome result (λ packed. (to : Layout) → StandsFor plan.now item.now.layout to
+        → IsPackedConversion item.now to limit packed) }
+{
+    let _types = item.format().types();
+    run_quickly(plan, item, limit)
+}
+
 // Why a record whose conversion has this fault is refused.
 fn fault_reason(alloc: Global, receiver: &Format, fault: RunFault) -> Result<Reason, Memory>
     ensures { IfOk result (λ reason. fault_reason receiver.now fault ≡ Some reason) }
@@ -212,11 +255,11 @@ fn handed_on(
             if item.format() == to {
                 return Ok(Arc::try_clone(item)?);
             }
-            Vec::from_slice(alloc, own)?
+            PackedBytes::copied(alloc, own)?
         }
-        CowSlice::Owned(bytes) => bytes,
+        CowSlice::Owned(bytes) => PackedBytes::of(bytes),
     };
-    Ok(Arc::new(alloc, Owned::new(to, bytes))?)
+    Ok(Arc::new(alloc, Owned::packed(to, bytes))?)
 }
 
 // The format of this number.

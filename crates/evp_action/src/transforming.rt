@@ -18,7 +18,7 @@ use crate::{Acted, Setting, To};
 use evp_cache::CachePass;
 use evp_format::Format;
 use evp_plan::Builds;
-use evp_record::Owned;
+use evp_record::{Owned, PackedBytes};
 use std::alloc::Global;
 use std::sync::Arc;
 
@@ -57,19 +57,19 @@ fn with_fields_set(
     item: &Owned,
     into: u16,
     set: &[Setting],
-    mut bytes: Vec<u8>,
+    mut bytes: PackedBytes,
 ) -> Result<Acted, Refusal>
     requires settings { (declared : ℕ) × AreSettings formats.now declared item.now.format into
         set.now }
     requires item { HasValueIn formats.now item.now }
-    requires packed { (fields : Entries) × IsPackedIn formats.now into fields bytes.items }
+    requires packed { (fields : Entries) × IsPackedIn formats.now into fields bytes }
     ensures { (value : Datum) (fields : Entries) → HasValue formats.now item.now value
-        → IsPackedIn formats.now into fields bytes.items
+        → IsPackedIn formats.now into fields bytes
         → IsAnswer formats.now (transformed (slice_get formats.now into) into set.now value
         (rec fields)) result }
 {
     let receiver = format_of(formats, into);
     let seen = item.checked(formats);
     set_fields(alloc, &seen, receiver, set, &mut bytes)?;
-    Ok(Acted::Sent(To::All, Arc::new(alloc, Owned::new(into, bytes))?))
+    Ok(Acted::Sent(To::All, Arc::new(alloc, Owned::packed(into, bytes))?))
 }

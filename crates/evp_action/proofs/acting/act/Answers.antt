@@ -1,4 +1,3 @@
-use Rattle.std.specs.Arc.{arc_value}
 use Rattle.evp_action.proofs.Works.{refused_is}
 use Rattle.evp_action.proofs.acting.act.Goals as goal
 

@@ -1,10 +1,9 @@
-use Rattle.std.proofs.Common.{◌≡◌, ℕ, List, sym, ap, ◌∙◌, subst}
+use Rattle.std.proofs.Common.{List, subst}
 use Rattle.std.specs.Arc.{arc_value}
-use Rattle.evp_action.specs.declared.action.Action.{Action}
 use Rattle.evp_action.specs.declared.action.Setting.{Setting}
-use Rattle.evp_action.specs.Acting.{act, transforms}
-use Rattle.evp_action.specs.Agreement.{Agrees, AreSettings}
-use Rattle.evp_action.specs.Asking.{pairs_of, transform_pairs}
+use Rattle.evp_action.specs.Acting.{transforms}
+use Rattle.evp_action.specs.Agreement.{Agrees}
+use Rattle.evp_action.specs.Asking.{transform_pairs}
 use Rattle.evp_action.specs.Working.{Works}
 use Rattle.evp_action.proofs.Works.{can_ask, of_action}
 use Rattle.evp_action.proofs.acting.acted.Goals as goal

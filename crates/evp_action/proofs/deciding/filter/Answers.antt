@@ -1,8 +1,8 @@
-use Rattle.std.proofs.Common.{◌≡◌, ℕ, List, [], ◌∷◌, Ok, Err, None, ap, ◌∙◌, slice_get, rules}
+use Rattle.std.proofs.Common.{ℕ, [], Ok, Err, None, ap, ◌∙◌, slice_get}
 use Rattle.std.proofs.lemmas.Result.{err_from_is_err_and}
 use Rattle.std.specs.Arc.{arc_value}
 use Rattle.evp_action.specs.Acting.{filters, then_number, filtered}
-use Rattle.evp_action.proofs.Works.{valued, into_value, into_known, refused_at, comes, done_with, by_one}
+use Rattle.evp_action.proofs.Works.{valued, into_value, into_known, refused_at, done_with, by_one}
 use Rattle.evp_eval.specs.Value.{value as value_over}
 use Rattle.evp_format.specs.Datum.{Datum}
 use Rattle.evp_action.proofs.deciding.filter.Goals as goal

@@ -1,12 +1,10 @@
-use Rattle.std.proofs.Common.{◌≡◌, ℕ, List, [], ◌∷◌, Ok, Err, None, ap, ◌∙◌, slice_get, rules}
+use Rattle.std.proofs.Common.{[], Ok, Err}
 use Rattle.std.proofs.lemmas.Result.{err_from_is_err_and}
 use Rattle.std.specs.Arc.{arc_value}
 use Rattle.evp_action.specs.Acting.{receives}
 use Rattle.evp_action.specs.declared.acted.Acted.TheVariants.{Arrived}
 use Rattle.evp_action.specs.Outcome.{arrived}
-use Rattle.evp_action.proofs.Works.{valued, into_value, into_known, refused_at, comes, done_with, by_one}
-use Rattle.evp_eval.specs.Value.{value as value_over}
-use Rattle.evp_format.specs.Datum.{Datum}
+use Rattle.evp_action.proofs.Works.{refused_at, comes, by_one}
 use Rattle.evp_action.proofs.deciding.receive.Goals as goal
 
 pub returns-in_err-made : goal.returns-in_err-made

@@ -1,6 +1,6 @@
 use Rattle.std.proofs.lemmas.Result.{err_from_is_err_and}
 use Rattle.evp_record.specs.Record.{value_of}
-use Rattle.evp_action.proofs.Settings.{none_yet, step_on, stop_on, still_packed, all_set}
+use Rattle.evp_action.proofs.Settings.{step_on, stop_on, still_packed}
 use Rattle.evp_action.proofs.setting.set_fields.Goals as goal
 
 pub returns-in_err-set_field-clause-cause : goal.returns-in_err-set_field-clause-cause

@@ -1,4 +1,4 @@
-use Rattle.std.proofs.Common.{◌≡◌, ℕ, List, [], ◌∷◌, cond, Ok, Err, sym, ap, ◌∙◌, subst, slice_get, arith}
+use Rattle.std.proofs.Common.{ℕ, [], ◌∷◌, cond, Err, sym, ap, ◌∙◌, subst, slice_get}
 use Rattle.std.proofs.lemmas.Result.{err_from_is_err_and}
 use Rattle.std.specs.Arc.{arc_value}
 use Rattle.evp_action.specs.declared.acted.Acted.{Acted}
@@ -120,7 +120,7 @@ returns c =
     let owned = arc_value c.args.item.now in
     let made = arc_value c.in_ok-made.made in
     let known = c.packed.new.known in
-    let bytes = c.in_ok-bytes.bytes.items in
+    let bytes = c.in_ok-bytes.bytes in
     let answer = c.with_fields_set.result in
     let packs = subst (λ (o : OwnedBytes). (m : Datum) → HasValue formats o m
     → IsPackedInto formats o.format c.args.into conv.limit m bytes) c.deref.ensures

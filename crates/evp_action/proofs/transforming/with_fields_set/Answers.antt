@@ -1,16 +1,12 @@
-use Rattle.std.proofs.Common.{◌≡◌, ℕ, ◌^◌, ◌<◌, List, length, sym, ap, ◌∙◌, subst, refl, slice_get, arith}
+use Rattle.std.proofs.Common.{◌∙◌, subst, refl}
 use Rattle.std.proofs.lemmas.Option.{slice_get_within}
 use Rattle.std.proofs.lemmas.Result.{err_from_is_err_and}
 use Rattle.std.specs.Arc.{arc_value}
 use Rattle.evp_action.specs.Settings.{AreSet, StopsBy}
-use Rattle.evp_action.specs.Storing.{IsPacked}
 use Rattle.evp_action.proofs.Conversions.{lent_by, value_is}
 use Rattle.evp_action.proofs.PackedRecords.{packed_short}
-use Rattle.evp_action.proofs.Transforms.{in_buffer, can_set, packed_at, laid_in, set_sent, set_stopped}
+use Rattle.evp_action.proofs.Transforms.{can_set, packed_at, laid_in, set_sent, set_stopped}
 use Rattle.evp_format.specs.Datum.{Datum}
-use Rattle.evp_record.specs.Owned.{owned_of}
-use Rattle.evp_record.specs.OwnedBytes.{OwnedBytes}
-use Rattle.evp_record.specs.Record.{value_of}
 use Rattle.evp_action.proofs.transforming.with_fields_set.Goals as goal
 
 pub format_of-receiver-requires : goal.format_of-receiver-requires
@@ -26,8 +22,7 @@ set_fields-requires c =
       few = c.requires.settings.1.few;
       packed = (
         c.requires.packed.0,
-        subst (λ (bytes : List ℕ). IsPacked c.format_of-receiver.result.now c.requires.packed.0 bytes) (sym c.deref_mut.ensures.value)
-            (packed_at c.args.formats.now c.args.into c.format_of-receiver.result.now c.requires.packed.0 c.args.bytes.items
+        (packed_at c.args.formats.now c.args.into c.format_of-receiver.result.now c.requires.packed.0 c.args.bytes
             c.format_of-receiver.ensures is),
       );
     }
@@ -40,50 +35,32 @@ returns-in_err-set_fields c =
     rw (p.1, p.2) (λ value fields has is.
     let lent = lent_by c.args.formats.now c.args.item.now c.args.item.now c.checked-seen.result refl c.checked-seen.ensures.format
     c.checked-seen.ensures.bytes in
-    let packed = subst (λ (bytes : List ℕ). IsPacked receiver fields bytes) (sym c.deref_mut.ensures.value)
-    (packed_at c.args.formats.now c.args.into receiver fields c.args.bytes.items c.format_of-receiver.ensures is) in
+    let packed = packed_at c.args.formats.now c.args.into receiver fields c.args.bytes c.format_of-receiver.ensures is in
     set_stopped c.args.formats.now c.args.into receiver c.args.set.now value fields cause c.format_of-receiver.ensures
     (subst (λ (v : Datum). StopsBy receiver 0 c.args.set.now v fields cause)
     (value_is c.args.formats.now c.args.item.now c.checked-seen.result value lent has)
     (c.in_err-set_fields.ensures.cause fields packed)))
 
-pub new-requires : goal.new-requires
-new-requires c =
+pub packed-requires : goal.packed-requires
+packed-requires c =
     let receiver = c.format_of-receiver.result.now in
     let fields = c.requires.packed.0 in
-    let new = c.set_fields.new.bytes in
-    let long : length new ≡ c.args.bytes.len = omega (
-      arith,
-      c.set_fields.auto.bytes,
-      ap length c.deref_mut.ensures.value,
-      c.args.bytes.ok.0,
-    ) in
-    let packed = subst (λ (bytes : List ℕ). IsPacked receiver fields bytes) (sym c.deref_mut.ensures.value)
-    (packed_at c.args.formats.now c.args.into receiver fields c.args.bytes.items c.format_of-receiver.ensures c.requires.packed.1) in
+    let packed = packed_at c.args.formats.now c.args.into receiver fields c.args.bytes c.format_of-receiver.ensures c.requires.packed.1 in
     let are = c.in_ok-set_fields.ensures.set fields packed in
-    let laid = laid_in c.args.formats.now c.args.into receiver fields c.args.bytes.items c.format_of-receiver.ensures
-    c.requires.packed.1 in
-    subst (λ (bytes : List ℕ). length bytes < 2 ^ 32) (sym (in_buffer c.args.bytes.len c.args.bytes.items new long))
-    (packed_short receiver are.fields new laid are.packed)
+    let laid = laid_in c.args.formats.now c.args.into receiver fields c.args.bytes c.format_of-receiver.ensures c.requires.packed.1 in
+    packed_short receiver are.fields c.set_fields.new.bytes laid are.packed
 
 pub returns : goal.returns
 returns c = λ value fields has is.
     let receiver = c.format_of-receiver.result.now in
     let new = c.set_fields.new.bytes in
-    let long : length new ≡ c.args.bytes.len = omega (
-      arith,
-      c.set_fields.auto.bytes,
-      ap length c.deref_mut.ensures.value,
-      c.args.bytes.ok.0,
-    ) in
     let lent = lent_by c.args.formats.now c.args.item.now c.args.item.now c.checked-seen.result refl c.checked-seen.ensures.format
     c.checked-seen.ensures.bytes in
-    let packed = subst (λ (bytes : List ℕ). IsPacked receiver fields bytes) (sym c.deref_mut.ensures.value)
-    (packed_at c.args.formats.now c.args.into receiver fields c.args.bytes.items c.format_of-receiver.ensures is) in
+    let packed = packed_at c.args.formats.now c.args.into receiver fields c.args.bytes c.format_of-receiver.ensures is in
     let are = subst (λ (v : Datum). AreSet receiver 0 c.args.set.now v fields new)
     (value_is c.args.formats.now c.args.item.now c.checked-seen.result value lent has)
     (c.in_ok-set_fields.ensures.set fields packed) in
     set_sent c.args.formats.now c.args.into receiver c.args.set.now value fields new (arc_value c.in_ok-new.field-0)
     c.format_of-receiver.ensures
-    (laid_in c.args.formats.now c.args.into receiver fields c.args.bytes.items c.format_of-receiver.ensures is) are
-    (c.in_ok-new.ensures.ok ∙ (c.new.ensures ∙ ap (owned_of c.args.into) (in_buffer c.args.bytes.len c.args.bytes.items new long)))
+    (laid_in c.args.formats.now c.args.into receiver fields c.args.bytes c.format_of-receiver.ensures is) are
+    (c.in_ok-new.ensures.ok ∙ c.packed.ensures)

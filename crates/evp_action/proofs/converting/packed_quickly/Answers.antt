@@ -1,0 +1,15 @@
+use Rattle.std.proofs.Common.{ℕ, ◌<◌, subst, arith}
+use Rattle.std.specs.Prelude.{All}
+use Rattle.evp_format.specs.WellLaid.{IsWellLaid}
+use Rattle.evp_format.proofs.Descriptions.{bytes_are}
+use Rattle.evp_action.proofs.PackedConversions.{packed_conversion, some_weaker}
+use Rattle.evp_action.proofs.converting.packed_quickly.Goals as goal
+
+pub returns : goal.returns
+returns c =
+    let laid = subst IsWellLaid c.format.ensures.value c.types-types.ensures.laid in
+    let are = subst (All (λ (byte : ℕ). byte < 256)) c.requires.own
+    (bytes_are c.args.bytes.now (λ k. omega (arith, c.type_inv.bytes k))) in
+    some_weaker _ _ c.run_quickly.result (λ packed h. λ to stands.
+    packed_conversion c.args.plan.now c.args.item.now to c.args.limit packed c.format.ensures.kept laid are stands (h to stands))
+    c.run_quickly.ensures

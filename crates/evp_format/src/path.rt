@@ -12,7 +12,7 @@ pub fn path_of(alloc: Global, format: &Format, place: &Place) -> Result<FieldPat
     ensures { IfOk result (λ path. path ≡ names_of format.now place.now) }
 {
     let types = format.types();
-    let mut path = FieldPath::new(alloc);
+    let mut path = FieldPath::from_steps(Vec::with_capacity(alloc, place.steps().len())?);
     let mut reached = Some(types.len() - 1);
     for step in place.steps() {
         match step {

@@ -9,6 +9,7 @@ mod closing;
 mod dealing;
 mod entry;
 mod feeder;
+mod growing;
 mod job;
 mod laws;
 mod opening;

@@ -6,6 +6,7 @@ ghost use Rattle.evp_stone.specs.Turning.{keeping};
 
 use crate::account::RoundAccount;
 use crate::entry::Entry;
+use crate::growing::{first_arrived, first_refused, make_room};
 use crate::outlet::{Outlet, Sending, lengthen, line_up};
 use evp_action::{Acted, Reason, To};
 use evp_record::Owned;
@@ -123,7 +124,8 @@ impl RouteWork {
             (Settled index (Arrived owned) (work_of self.old) (work_of self.new) []) }
         ensures err { OnErr result (work_of self.new ≡ work_of self.old) }
     {
-        self.running.arrived.reserve(1)?;
+        let first = first_arrived(self.ended.as_slice());
+        make_room(&mut self.running.arrived, first)?;
         self.running.arrived.push_reserved((index, owned));
         self.running.passed += 1;
         Ok(())
@@ -135,7 +137,8 @@ impl RouteWork {
             (Settled index (Refused reason) (work_of self.old) (work_of self.new) []) }
         ensures err { OnErr result (work_of self.new ≡ work_of self.old) }
     {
-        self.running.refused.reserve(1)?;
+        let first = first_refused(self.ended.as_slice());
+        make_room(&mut self.running.refused, first)?;
         self.running.refused.push_reserved((index, reason));
         Ok(())
     }

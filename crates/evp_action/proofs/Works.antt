@@ -14,7 +14,7 @@ use Rattle.evp_action.specs.Acting.{act, converting}
 use Rattle.evp_action.specs.Asking.{pairs_of, Keeps, Asks, AsksOnly, BuildsFor}
 use Rattle.evp_action.specs.Converted.{CanAsk, IsInto, IsCause, IsRefused, spare}
 use Rattle.evp_action.specs.Outcome.{Outcome, refused}
-use Rattle.evp_action.specs.Performed.{HasValue, IsComeOf, IsActed}
+use Rattle.evp_action.specs.Performed.{HasValue, IsComeOf}
 use Rattle.evp_action.specs.Working.{IsAnswer, Works}
 use Rattle.evp_action.proofs.Conversions.{goes_on}
 use Rattle.evp_cache.specs.declared.found.Found.{Found}
@@ -69,14 +69,19 @@ comes formats from to limit value owned what is = record {
 
 -- what is done with it
 pub done_with : (formats : List Layout) (from to limit : ℕ) (value : Datum) (owned : OwnedBytes) (next : ℕ → Datum → Outcome)
-    (acted : Acted)
+    (answer : Result Acted Refusal)
     → IsInto formats from to limit value owned
-    → ((made : Datum) → HasValue formats owned made → IsActed formats (next owned.format made) acted)
-    → IsActed formats (converting (slice_get formats from) (slice_get formats to) limit value (next to)) acted
-done_with formats from to limit value owned next acted is does =
-    subst (λ (outcome : Outcome). IsActed formats outcome acted)
+    → ((made : Datum) → HasValue formats owned made → IsAnswer formats (next owned.format made) answer)
+    → IsAnswer formats (converting (slice_get formats from) (slice_get formats to) limit value (next to)) answer
+done_with formats from to limit value owned next answer is does =
+    subst (λ (outcome : Outcome). IsAnswer formats outcome answer)
     (ap (λ (n : ℕ). next n is.value_made) is.numbered ∙ sym (goes_on formats from to limit value is.value_made is.converted (next to)))
     (does is.value_made (into_value formats from to limit value owned is))
+
+-- no more plans are built where what follows builds none
+pub builds_still : (old new : List Known) (before after spared : ℕ) → BuildsFor 0 old new before after
+    → BuildsFor spared old new before after
+builds_still old new before after spared builds = omega (arith, builds)
 
 -- a conversion that is refused
 pub refused_at : (formats : List Layout) (from to limit : ℕ) (value : Datum) (next : Datum → Outcome) (cause : Refusal)

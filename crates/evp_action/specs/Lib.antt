@@ -7,3 +7,4 @@ pub mod Storing
 pub mod Converted
 pub mod Settings
 pub mod Working
+pub mod MadeRecord

@@ -6,6 +6,7 @@ ghost use Rattle.evp_action.specs.Asking.{Keeps, AsksOnly, BuildsFor};
 ghost use Rattle.evp_action.specs.Converted.{CanAsk, IsInto, IsPackedInto, IsCause, IsClash};
 ghost use Rattle.evp_action.specs.Converted.{plan_of, fault_reason, spare};
 ghost use Rattle.evp_action.specs.Converted.{IsPackedConversion};
+ghost use Rattle.evp_action.specs.MadeRecord.{record_in};
 ghost use Rattle.evp_action.specs.Performed.{HasValue};
 ghost use Rattle.evp_cache.specs.Known.{IsFoundFor};
 ghost use Rattle.evp_format.specs.Converting.{convert};
@@ -17,6 +18,7 @@ ghost use Rattle.evp_record.specs.Record.{value_of};
 ghost use Rattle.evp_runner.specs.Running.{IsRunFault};
 
 use crate::Reason;
+use crate::made::Made;
 use crate::refusal::Refusal;
 use evp_base::Memory;
 use evp_cache::{CachePass, Found, PlanCache};
@@ -38,22 +40,24 @@ pub(crate) struct Converter<'a> {
 }
 
 impl<'a> Converter<'a> {
-    // The record in the format of this number: itself where that is the number of its own.
-    pub fn convert(
+    // The record in the format of this number: itself where that is the number of its own. Inlined,
+    // so that a new record isn't copied from call to call.
+    #[inline(always)]
+    pub fn convert<'b>(
         &self,
         alloc: Global,
         known: &mut CachePass,
         builds: &mut Builds,
-        item: &Arc<Owned, Global>,
+        item: &'b Arc<Owned, Global>,
         to: u16,
-    ) -> Result<Arc<Owned, Global>, Refusal>
+    ) -> Result<Made<'b>, Refusal>
         requires ask { CanAsk self.now.cache.now self.now.formats.now known.old (arc_value
             item.now).format to }
         requires has { HasValueIn self.now.formats.now (arc_value item.now) }
         ensures made { IfOk result (λ made. (value : Datum)
             → HasValue self.now.formats.now (arc_value item.now) value
             → IsInto self.now.formats.now (arc_value item.now).format to self.now.limit value
-            (arc_value made)) }
+            (record_in made)) }
         ensures cause { IfErr result (λ cause. (value : Datum)
             → HasValue self.now.formats.now (arc_value item.now) value
             → IsCause self.now.formats.now (arc_value item.now).format to self.now.limit value
@@ -68,19 +72,20 @@ impl<'a> Converter<'a> {
     }
 
     // The record by what was found for the pair of its format and that of this number.
-    fn converted(
+    #[inline(always)]
+    fn converted<'b>(
         &self,
         alloc: Global,
         found: &Found,
-        item: &Arc<Owned, Global>,
+        item: &'b Arc<Owned, Global>,
         to: u16,
-    ) -> Result<Arc<Owned, Global>, Refusal>
+    ) -> Result<Made<'b>, Refusal>
         requires found { IsFoundFor self.now.formats.now (arc_value item.now).format to found.now }
         requires has { HasValueIn self.now.formats.now (arc_value item.now) }
         ensures made { IfOk result (λ made. (value : Datum)
             → HasValue self.now.formats.now (arc_value item.now) value
             → IsInto self.now.formats.now (arc_value item.now).format to self.now.limit value
-            (arc_value made)) }
+            (record_in made)) }
         ensures cause { IfErr result (λ cause. (value : Datum)
             → HasValue self.now.formats.now (arc_value item.now) value
             → IsCause self.now.formats.now (arc_value item.now).format to self.now.limit value
@@ -89,7 +94,7 @@ impl<'a> Converter<'a> {
         let plan = plan_in(found)?;
         if !plan.alike() {
             let bytes = self.packed_by(alloc, found, item, to)?;
-            return Ok(Arc::new(alloc, Owned::packed(to, bytes))?);
+            return Ok(Made::New(Owned::packed(to, bytes)));
         }
         match pass(alloc, plan, item.checked(self.formats), self.limit) {
             Ok(bytes) => Ok(handed_on(alloc, item, bytes, to)?),
@@ -240,26 +245,26 @@ fn fault_reason(alloc: Global, receiver: &Format, fault: RunFault) -> Result<Rea
 
 // A record of the format of this number: the item itself where its own bytes are lent and its
 // format has this number, else one of these bytes.
-fn handed_on(
+fn handed_on<'b>(
     alloc: Global,
-    item: &Arc<Owned, Global>,
+    item: &'b Arc<Owned, Global>,
     bytes: CowSlice<'_, u8>,
     to: u16,
-) -> Result<Arc<Owned, Global>, Memory>
+) -> Result<Made<'b>, Memory>
     requires short { length (cow_slice_items bytes) < 2 ^ 32 }
     requires own { IsBorrowedSlice bytes → cow_slice_items bytes ≡ (arc_value item.now).bytes }
-    ensures { IfOk result (λ made. arc_value made ≡ owned_of to (cow_slice_items bytes.entry)) }
+    ensures { IfOk result (λ made. record_in made ≡ owned_of to (cow_slice_items bytes.entry)) }
 {
     let bytes = match bytes {
         CowSlice::Borrowed(own) => {
             if item.format() == to {
-                return Ok(Arc::try_clone(item)?);
+                return Ok(Made::Same(item));
             }
             PackedBytes::copied(alloc, own)?
         }
         CowSlice::Owned(bytes) => PackedBytes::of(bytes),
     };
-    Ok(Arc::new(alloc, Owned::packed(to, bytes))?)
+    Ok(Made::New(Owned::packed(to, bytes)))
 }
 
 // The format of this number.

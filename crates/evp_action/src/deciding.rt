@@ -4,13 +4,15 @@ ghost use Rattle.std.specs.Arc.{arc_value};
 ghost use Rattle.evp_action.specs.Acting.{reason_of, then_number, filtered, routed};
 ghost use Rattle.evp_action.specs.Acting.{receives, filters, routes};
 ghost use Rattle.evp_action.specs.Converted.{CanAsk};
-ghost use Rattle.evp_action.specs.Performed.{HasValue, IsActed};
-ghost use Rattle.evp_action.specs.Working.{Works};
+ghost use Rattle.evp_action.specs.MadeRecord.{record_in};
+ghost use Rattle.evp_action.specs.Performed.{HasValue};
+ghost use Rattle.evp_action.specs.Working.{IsAnswer, Works};
 ghost use Rattle.evp_eval.specs.Value.{value as value_over};
 ghost use Rattle.evp_format.specs.Datum.{Datum};
 ghost use Rattle.evp_record.specs.Owned.{HasValueIn};
 
 use crate::converting::Converter;
+use crate::made::Made;
 use crate::refusal::Refusal;
 use crate::{Acted, Reason, To};
 use evp_cache::CachePass;
@@ -40,7 +42,7 @@ pub(crate) fn receive(
         builds.old builds.new result }
 {
     let made = converter.convert(alloc, pass, builds, item, format)?;
-    Ok(Acted::Arrived(made))
+    Ok(Acted::Arrived(made.into_arc(alloc)?))
 }
 
 // Sends the record on in the format of this number where the test isn't 0.
@@ -64,7 +66,7 @@ pub(crate) fn filter(
         builds.old builds.new result }
 {
     let made = converter.convert(alloc, pass, builds, item, format)?;
-    Ok(filtered(converter.formats, test, made))
+    filtered(alloc, converter.formats, test, made)
 }
 
 // Sends the record on in the format of this number, to the target that the expression gives.
@@ -89,43 +91,56 @@ pub(crate) fn route(
         builds.old builds.new result }
 {
     let made = converter.convert(alloc, pass, builds, item, format)?;
-    Ok(routed(converter.formats, targets, choose, made))
+    routed(alloc, converter.formats, targets, choose, made)
 }
 
 // Sends the record on where the test isn't 0.
-fn filtered(formats: &[Format], test: &Bound, item: Arc<Owned, Global>) -> Acted
-    requires bound { slice_get formats.now (arc_value item).format ≡ Some test.now.layout }
-    requires has { HasValueIn formats.now (arc_value item) }
-    ensures { (value : Datum) → HasValue formats.now (arc_value item) value
-        → IsActed formats.now (then_number None (value_over test.now.tree value)
-        (filtered (arc_value item).format value)) result }
+#[inline(always)]
+fn filtered(
+    alloc: Global,
+    formats: &[Format],
+    test: &Bound,
+    made: Made<'_>,
+) -> Result<Acted, Refusal>
+    requires bound { slice_get formats.now (record_in made).format ≡ Some test.now.layout }
+    requires has { HasValueIn formats.now (record_in made) }
+    ensures { (value : Datum) → HasValue formats.now (record_in made.entry) value
+        → IsAnswer formats.now (then_number None (value_over test.now.tree value)
+        (filtered (record_in made.entry).format value)) result }
 {
-    let number = match eval(test, item.checked(formats)) {
+    let number = match eval(test, made.owned().checked(formats)) {
         Ok(number) => number,
-        Err(fault) => return Acted::Refused(reason_of(None, fault)),
+        Err(fault) => return Ok(Acted::Refused(reason_of(None, fault))),
     };
     if number == 0 {
-        return Acted::Dropped;
+        return Ok(Acted::Dropped);
     }
-    Acted::Sent(To::All, item)
+    Ok(Acted::Sent(To::All, made.into_arc(alloc)?))
 }
 
 // Sends the record to the target at the position that the expression gives, where there is one.
-fn routed(formats: &[Format], targets: u16, choose: &Bound, item: Arc<Owned, Global>) -> Acted
-    requires bound { slice_get formats.now (arc_value item).format ≡ Some choose.now.layout }
-    requires has { HasValueIn formats.now (arc_value item) }
-    ensures { (value : Datum) → HasValue formats.now (arc_value item) value
-        → IsActed formats.now (then_number None (value_over choose.now.tree value)
-        (routed targets (arc_value item).format value)) result }
+#[inline(always)]
+fn routed(
+    alloc: Global,
+    formats: &[Format],
+    targets: u16,
+    choose: &Bound,
+    made: Made<'_>,
+) -> Result<Acted, Refusal>
+    requires bound { slice_get formats.now (record_in made).format ≡ Some choose.now.layout }
+    requires has { HasValueIn formats.now (record_in made) }
+    ensures { (value : Datum) → HasValue formats.now (record_in made.entry) value
+        → IsAnswer formats.now (then_number None (value_over choose.now.tree value)
+        (routed targets (record_in made.entry).format value)) result }
 {
-    let number = match eval(choose, item.checked(formats)) {
+    let number = match eval(choose, made.owned().checked(formats)) {
         Ok(number) => number,
-        Err(fault) => return Acted::Refused(reason_of(None, fault)),
+        Err(fault) => return Ok(Acted::Refused(reason_of(None, fault))),
     };
     if number < 0 || number >= i128::from(targets) {
-        return Acted::Dropped;
+        return Ok(Acted::Dropped);
     }
-    Acted::Sent(To::One(number as u16), item)
+    Ok(Acted::Sent(To::One(number as u16), made.into_arc(alloc)?))
 }
 
 // Why a record is refused where an expression has no value: that of the setting of this number, or

@@ -6,6 +6,7 @@ mod acting;
 mod action;
 mod converting;
 mod deciding;
+mod made;
 mod refusal;
 mod setting;
 mod storing;

@@ -46,8 +46,9 @@ pub(crate) fn transform(
         (arc_value item.now).format) pass.old pass.new builds.old builds.new result }
 {
     let made = converter.convert(alloc, pass, builds, item, format)?;
-    let bytes = converter.packed(alloc, pass, builds, &made, into)?;
-    with_fields_set(alloc, converter.formats, &made, into, set, bytes)
+    let first = made.owned();
+    let bytes = converter.packed(alloc, pass, builds, first, into)?;
+    with_fields_set(alloc, converter.formats, first, into, set, bytes)
 }
 
 // Sets the fields of a packed record of the format of this number, and sends it on.

@@ -1,8 +1,10 @@
-use Rattle.std.proofs.Common.{ℕ, [], Ok, Err, None, ap, ◌∙◌, slice_get}
+use Rattle.std.proofs.Common.{ℕ, [], Err, None, ap, ◌∙◌, slice_get}
 use Rattle.std.proofs.lemmas.Result.{err_from_is_err_and}
 use Rattle.std.specs.Arc.{arc_value}
 use Rattle.evp_action.specs.Acting.{filters, then_number, filtered}
-use Rattle.evp_action.proofs.Works.{valued, into_value, into_known, refused_at, done_with, by_one}
+use Rattle.evp_action.specs.Converted.{spare}
+use Rattle.evp_action.specs.MadeRecord.{record_in}
+use Rattle.evp_action.proofs.Works.{valued, into_value, into_known, refused_at, done_with, by_one, builds_still}
 use Rattle.evp_eval.specs.Value.{value as value_over}
 use Rattle.evp_format.specs.Datum.{Datum}
 use Rattle.evp_action.proofs.deciding.filter.Goals as goal
@@ -31,18 +33,18 @@ filtered-requires-clause-has c =
     let formats = c.args.converter.now.formats.now in
     let v = valued formats (arc_value c.args.item.now) c.requires.has in
     let is = c.in_ok-made.ensures.made v.value v.has in
-    into_known formats (arc_value c.in_ok-made.made) is.value_made
-    (into_value formats _ c.args.format c.args.converter.now.limit v.value (arc_value c.in_ok-made.made) is)
+    into_known formats (record_in c.in_ok-made.made) is.value_made
+    (into_value formats _ c.args.format c.args.converter.now.limit v.value (record_in c.in_ok-made.made) is)
 
 pub returns : goal.returns
 returns c =
     let conv = c.args.converter.now in
     let owned = arc_value c.args.item.now in
-    let made = arc_value c.in_ok-made.made in
+    let made = record_in c.in_ok-made.made in
     by_one conv.cache.now conv.formats.now owned (filters conv.formats.now conv.limit c.args.format c.args.test.now owned.format)
     c.args.format (λ value. []) c.args.pass.now c.convert.new.known
-    c.args.builds.now c.convert.new.builds (Ok c.filtered.result) c.in_ok-made.ensures.kept c.in_ok-made.ensures.asked
-    c.in_ok-made.ensures.builds
+    c.args.builds.now c.convert.new.builds c.filtered.result c.in_ok-made.ensures.kept c.in_ok-made.ensures.asked
+    (builds_still c.args.pass.now c.convert.new.known c.args.builds.now c.convert.new.builds (spare c.filtered.result) c.in_ok-made.ensures.builds)
     (λ value has. done_with conv.formats.now owned.format c.args.format conv.limit value made
     (λ (n : ℕ) (m : Datum). then_number None (value_over c.args.test.now.tree m) (filtered n m)) c.filtered.result
     (c.in_ok-made.ensures.made value has) c.filtered.ensures)

@@ -1,8 +1,9 @@
-use Rattle.std.proofs.Common.{[], Ok, Err}
+use Rattle.std.proofs.Common.{[], Ok, Err, sym, subst}
 use Rattle.std.proofs.lemmas.Result.{err_from_is_err_and}
 use Rattle.std.specs.Arc.{arc_value}
 use Rattle.evp_action.specs.Acting.{receives}
 use Rattle.evp_action.specs.declared.acted.Acted.TheVariants.{Arrived}
+use Rattle.evp_action.specs.Converted.{IsInto}
 use Rattle.evp_action.specs.Outcome.{arrived}
 use Rattle.evp_action.proofs.Works.{refused_at, comes, by_one}
 use Rattle.evp_action.proofs.deciding.receive.Goals as goal
@@ -24,9 +25,11 @@ pub returns : goal.returns
 returns c =
     let conv = c.args.converter.now in
     let owned = arc_value c.args.item.now in
-    let made = arc_value c.in_ok-made.made in
+    let shared = c.in_ok-into_arc.field-0 in
     by_one conv.cache.now conv.formats.now owned (receives conv.formats.now conv.limit c.args.format owned.format) c.args.format
     (λ value. []) c.args.pass.now c.convert.new.known
-    c.args.builds.now c.convert.new.builds (Ok (Arrived c.in_ok-made.made)) c.in_ok-made.ensures.kept c.in_ok-made.ensures.asked
+    c.args.builds.now c.convert.new.builds (Ok (Arrived shared)) c.in_ok-made.ensures.kept c.in_ok-made.ensures.asked
     c.in_ok-made.ensures.builds
-    (λ value has. comes conv.formats.now owned.format c.args.format conv.limit value made arrived (c.in_ok-made.ensures.made value has))
+    (λ value has. comes conv.formats.now owned.format c.args.format conv.limit value (arc_value shared) arrived
+    (subst (IsInto conv.formats.now owned.format c.args.format conv.limit value) (sym c.in_ok-into_arc.ensures)
+    (c.in_ok-made.ensures.made value has)))

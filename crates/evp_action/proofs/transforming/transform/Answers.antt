@@ -6,6 +6,7 @@ use Rattle.evp_action.specs.Acting.{transforms, transformed}
 use Rattle.evp_action.specs.Agreement.{AreSettings}
 use Rattle.evp_action.specs.Asking.{converts, AsksOnly}
 use Rattle.evp_action.specs.Converted.{IsPackedIn, IsPackedInto, IsCause, spare}
+use Rattle.evp_action.specs.MadeRecord.{record_in}
 use Rattle.evp_action.specs.Performed.{HasValue}
 use Rattle.evp_action.specs.Working.{IsAnswer}
 use Rattle.evp_action.proofs.Works.{valued, can_ask, into_value, into_known, refused_at, by_one}
@@ -37,20 +38,20 @@ packed-requires-clause-ask c =
     let conv = c.args.converter.now in
     let formats = conv.formats.now in
     let v = valued formats (arc_value c.args.item.now) c.requires.item in
-    let made = arc_value c.in_ok-made.made in
+    let made = record_in c.in_ok-made.made in
     let is = c.in_ok-made.ensures.made v.value v.has in
     let has = into_known formats made is.value_made (into_value formats _ c.args.format conv.limit v.value made is) in
-    can_ask conv.cache.now formats c.convert.new.known c.deref.result.now c.args.into c.requires.cache c.in_ok-made.ensures.kept.right
-    (subst (HasValueIn formats) (sym c.deref.ensures) has) c.requires.settings.second_there.below
+    can_ask conv.cache.now formats c.convert.new.known c.owned-first.result.now c.args.into c.requires.cache c.in_ok-made.ensures.kept.right
+    (subst (HasValueIn formats) (sym c.owned-first.ensures) has) c.requires.settings.second_there.below
 
 pub packed-requires-clause-has : goal.packed-requires-clause-has
 packed-requires-clause-has c =
     let conv = c.args.converter.now in
     let formats = conv.formats.now in
     let v = valued formats (arc_value c.args.item.now) c.requires.item in
-    let made = arc_value c.in_ok-made.made in
+    let made = record_in c.in_ok-made.made in
     let is = c.in_ok-made.ensures.made v.value v.has in
-    subst (HasValueIn formats) (sym c.deref.ensures) (into_known formats made is.value_made
+    subst (HasValueIn formats) (sym c.owned-first.ensures) (into_known formats made is.value_made
     (into_value formats _ c.args.format conv.limit v.value made is))
 
 pub returns-in_err-bytes : goal.returns-in_err-bytes
@@ -58,14 +59,14 @@ returns-in_err-bytes c =
     let conv = c.args.converter.now in
     let formats = conv.formats.now in
     let owned = arc_value c.args.item.now in
-    let made = arc_value c.in_ok-made.made in
+    let made = record_in c.in_ok-made.made in
     let cause = c.in_err-bytes.field-0.0 in
     let known = c.packed.new.known in
     let p = err_from_is_err_and c.from_residual-in_err-bytes.result c.from_residual-in_err-bytes.ensures.1 in
     let why = subst (λ (o : OwnedBytes). (m : Datum) → HasValue formats o m → IsCause formats o.format c.args.into conv.limit m cause)
-    c.deref.ensures
+    c.owned-first.ensures
     c.in_err-bytes.ensures.cause in
-    let asked = subst (λ (o : OwnedBytes). AsksOnly o.format c.args.into c.convert.new.known known) c.deref.ensures
+    let asked = subst (λ (o : OwnedBytes). AsksOnly o.format c.args.into c.convert.new.known known) c.owned-first.ensures
     c.in_err-bytes.ensures.asked in
     rw (p.1, p.2) (record {
       answers = λ value has. second_refused formats conv.limit c.args.format c.args.into owned.format c.args.set.now value made cause
@@ -88,7 +89,7 @@ with_fields_set-requires-clause-settings c =
     let is = c.in_ok-made.ensures.made v.value v.has in (
       conv.cache.now.declared,
       subst (λ (n : ℕ). AreSettings formats conv.cache.now.declared n c.args.into c.args.set.now)
-          (sym (ap (λ (o : OwnedBytes). o.format) c.deref-2.ensures ∙ is.numbered)) c.requires.settings,
+          (sym (ap (λ (o : OwnedBytes). o.format) c.owned-first.ensures ∙ is.numbered)) c.requires.settings,
     )
 
 pub with_fields_set-requires-clause-item : goal.with_fields_set-requires-clause-item
@@ -96,9 +97,9 @@ with_fields_set-requires-clause-item c =
     let conv = c.args.converter.now in
     let formats = conv.formats.now in
     let v = valued formats (arc_value c.args.item.now) c.requires.item in
-    let made = arc_value c.in_ok-made.made in
+    let made = record_in c.in_ok-made.made in
     let is = c.in_ok-made.ensures.made v.value v.has in
-    subst (HasValueIn formats) (sym c.deref-2.ensures) (into_known formats made is.value_made
+    subst (HasValueIn formats) (sym c.owned-first.ensures) (into_known formats made is.value_made
     (into_value formats _ c.args.format conv.limit v.value made is))
 
 pub with_fields_set-requires-clause-packed : goal.with_fields_set-requires-clause-packed
@@ -106,11 +107,11 @@ with_fields_set-requires-clause-packed c =
     let conv = c.args.converter.now in
     let formats = conv.formats.now in
     let v = valued formats (arc_value c.args.item.now) c.requires.item in
-    let made = arc_value c.in_ok-made.made in
+    let made = record_in c.in_ok-made.made in
     let is = c.in_ok-made.ensures.made v.value v.has in
     let has = into_value formats _ c.args.format conv.limit v.value made is in
     let second = c.in_ok-bytes.ensures.made is.value_made (subst (λ (o : OwnedBytes). HasValue formats o is.value_made)
-    (sym c.deref.ensures) has) in
+    (sym c.owned-first.ensures) has) in
     (second.fields, second.packed)
 
 pub returns : goal.returns
@@ -118,18 +119,18 @@ returns c =
     let conv = c.args.converter.now in
     let formats = conv.formats.now in
     let owned = arc_value c.args.item.now in
-    let made = arc_value c.in_ok-made.made in
+    let made = record_in c.in_ok-made.made in
     let known = c.packed.new.known in
     let bytes = c.in_ok-bytes.bytes in
     let answer = c.with_fields_set.result in
     let packs = subst (λ (o : OwnedBytes). (m : Datum) → HasValue formats o m
-    → IsPackedInto formats o.format c.args.into conv.limit m bytes) c.deref.ensures
+    → IsPackedInto formats o.format c.args.into conv.limit m bytes) c.owned-first.ensures
     c.in_ok-bytes.ensures.made in
     let does = subst (λ (o : OwnedBytes). (m : Datum) (fields : Entries) → HasValue formats o m
     → IsPackedIn formats c.args.into fields bytes
-    → IsAnswer formats (transformed (slice_get formats c.args.into) c.args.into c.args.set.now m (rec fields)) answer) c.deref-2.ensures
+    → IsAnswer formats (transformed (slice_get formats c.args.into) c.args.into c.args.set.now m (rec fields)) answer) c.owned-first.ensures
     c.with_fields_set.ensures in
-    let asked = subst (λ (o : OwnedBytes). AsksOnly o.format c.args.into c.convert.new.known known) c.deref.ensures
+    let asked = subst (λ (o : OwnedBytes). AsksOnly o.format c.args.into c.convert.new.known known) c.owned-first.ensures
     c.in_ok-bytes.ensures.asked in
     record {
       answers = λ value has. behind_both formats conv.limit c.args.format c.args.into owned.format c.args.set.now value made bytes answer

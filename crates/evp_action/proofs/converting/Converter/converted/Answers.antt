@@ -1,4 +1,4 @@
-use Rattle.std.proofs.Common.{◌∙◌, sym, subst}
+use Rattle.std.proofs.Common.{sym, subst}
 use Rattle.evp_action.proofs.Conversions.{receiver_there, format_at, lent_by, into, fault_cause}
 use Rattle.std.specs.Arc.{arc_value}
 use Rattle.evp_action.specs.Converted.{IsPackedInto}
@@ -27,8 +27,7 @@ returns-then-not-alike-clause-made c = λ value has.
     let shown = subst (λ (o : OwnedBytes). HasValue formats o value) (sym c.deref.ensures) has in
     let packs = subst (λ (o : OwnedBytes). IsPackedInto formats o.format c.args.to limit value bytes) c.deref.ensures
     (c.in_ok-bytes.ensures.made value shown) in
-    packed_is_into formats (arc_value c.args.item.now).format c.args.to limit value bytes (arc_value c.in_ok-new.field-0) packs
-    (c.in_ok-new.ensures.ok ∙ c.packed.ensures)
+    packed_is_into formats (arc_value c.args.item.now).format c.args.to limit value bytes c.packed.result packs c.packed.ensures
 
 pub returns-in_ok-handed_on-in-Ok-clause-made : goal.returns-in_ok-handed_on-in-Ok-clause-made
 returns-in_ok-handed_on-in-Ok-clause-made c = λ value has.

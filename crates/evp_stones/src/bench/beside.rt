@@ -13,12 +13,7 @@ pub(super) fn both<
     G: FnOnce() -> B + Send,
     A: Send,
     B: Send,
->(
-    rt: &R,
-    is_beside: bool,
-    first: F,
-    second: G,
-) -> (A, B)
+>(rt: &R, is_beside: bool, first: F, second: G) -> (A, B)
     requires { F.pre first × G.pre second }
     ensures first { F.post first result.0 }
     ensures second { G.post second result.1 }

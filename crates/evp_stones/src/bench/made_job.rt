@@ -77,6 +77,9 @@ fn made_sources<R: Threads + Sync>(
     requires { IsMakeable text.now records }
     ensures { IfOk result (AreMade text.now records) }
 {
+    // room in this thread's heap, and below in that of each thread that only waits: all are workers'
+    // heaps later
+    ask_ahead(alloc);
     let ((a, b), (c, d)) = both(
         rt,
         threads >= 2,
@@ -111,6 +114,7 @@ fn two_sources<R: Threads + Sync>(
     ensures first { IsMade text.now records source result.0 }
     ensures second { IsMade text.now records (source + 1) result.1 }
 {
+    ask_ahead(alloc);
     both(
         rt,
         threads >= 4,

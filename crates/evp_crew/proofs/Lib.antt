@@ -1,4 +1,5 @@
 pub mod Accounts
+pub mod BesideFacts
 pub mod Crossing
 pub mod Gathered
 pub mod Givers

@@ -7,6 +7,7 @@ ghost use Rattle.evp_crew.specs.Gathering.{AllWork};
 ghost use Rattle.evp_crew.specs.Rota.{three, AreServing};
 
 use crate::alone::alone;
+use crate::beside::all_beside;
 use crate::carried::Carried;
 use crate::crew::Crew;
 use crate::gate::Gate;
@@ -18,7 +19,6 @@ use evp_cache::PlanCache;
 use evp_stone::Job;
 use std::alloc::Global;
 use std::sync::Wait;
-use std::thread;
 use std::thread::Threads;
 
 /// Carries a job by so many workers, 1 to 64, each in a thread where one can be made. The gate is
@@ -67,8 +67,8 @@ fn by_workers<R: Threads + Wait + Sync, G: Gate + Sync>(
         rotas: rotas.as_slice(),
         workers,
     };
-    let mut all = hired(rt, alloc, &office, desks.as_mut_slice())?;
-    work_all(rt, &office, gate, all.as_mut_slice());
+    let all = hired(rt, alloc, &office, desks.as_mut_slice())?;
+    let all = work_all(rt, &office, gate, all);
     match gathered(alloc, count, all)? {
         Some(seats) => Ok(Some(Carried::new(alloc, job, cache, crew, seats)?)),
         None => Ok(None),
@@ -105,25 +105,33 @@ fn work_all<R: Threads + Wait + Sync, G: Gate + Sync>(
     rt: &R,
     office: &Office<'_>,
     gate: &G,
-    all: &mut [Worker],
-)
+    all: Vec<Worker>,
+) -> Vec<Worker>
     requires { AllWork office.now.rotas.now
-        (three office.now.job.now office.now.cache.now office.now.crew.now) all.old }
-    ensures long { length all.new ≡ length all.old }
-    ensures work { AllWork office.now.rotas.now
-        (three office.now.job.now office.now.cache.now office.now.crew.now) all.new }
+        (three office.now.job.now office.now.cache.now office.now.crew.now) all.items }
+    ensures { AllWork office.now.rotas.now
+        (three office.now.job.now office.now.cache.now office.now.crew.now) result.items }
 {
-    let threads = all.len().max(1);
-    thread::for_each_mut(
+    all_beside(
         rt,
-        all,
-        threads,
-        &|_, worker: &mut Worker|
+        &|worker: Worker| -> Worker
             requires { WorksAt office.now.rotas.now
-                (three office.now.job.now office.now.cache.now office.now.crew.now) worker.now }
+                (three office.now.job.now office.now.cache.now office.now.crew.now) worker }
             ensures { WorksAt office.entry.now.rotas.now
                 (three office.entry.now.job.now office.entry.now.cache.now
-                office.entry.now.crew.now) worker.exit.now }
-        { worker.work(rt, office, gate) },
-    );
+                office.entry.now.crew.now) result }
+        { worked(rt, office, gate, worker) },
+        all,
+    )
+}
+
+// A worker that has worked until it ended.
+fn worked<R: Wait, G: Gate>(rt: &R, office: &Office<'_>, gate: &G, mut worker: Worker) -> Worker
+    requires { WorksAt office.now.rotas.now
+        (three office.now.job.now office.now.cache.now office.now.crew.now) worker }
+    ensures { WorksAt office.now.rotas.now
+        (three office.now.job.now office.now.cache.now office.now.crew.now) result }
+{
+    worker.work(rt, office, gate);
+    worker
 }

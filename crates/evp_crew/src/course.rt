@@ -1,28 +1,30 @@
 //! Which seat a worker tries next.
 ghost use Rattle.std.specs.Prelude.{◌<◌, IfSome};
 
+use arrayvec::ArrayVec;
 use evp_stone::Turn;
 use std::thread;
 
-// To how many stones in a row a worker goes because the seat before waits for them.
-const MOST_FOLLOWED: u32 = 4;
+// To how many seats a worker goes on and comes back from, at most.
+const MOST_FOLLOWED: usize = 12;
 
 /// Which seat a worker tries next. Some are its own: those that stand as far apart as there are
-/// workers. It goes through these in turn, and behind one that waits for a full queue to the stone
-/// of that queue. While none of its own moves anything it goes through all. So what a worker needs
-/// for a seat mostly lies near it, and no seat waits for a worker that stands still.
-#[derive(Debug, Drop)]
+/// workers. It stays with one of these while that has something to do, sources first. From one that
+/// waits for a full queue it goes to the stone of that queue, and so on, and then comes back the same
+/// way: so records go through the graph by few at a time, and what is needed for them lies near it.
+/// While none of its own moves anything it goes through all, so no seat waits for a worker that
+/// stands still.
+#[derive(Drop)]
 pub(crate) struct Course {
     // How far its own seats stand apart, how many they are, and the first of them.
     apart: usize,
     count: usize,
     first: usize,
-    // The next of its own, and of all.
+    // That one of its own with which it stays, and the next of all.
     own: usize,
     any: usize,
-    // The seat of the stone for which the last one waits, and how many such it went to in a row.
-    wanted: Option<usize>,
-    followed: u32,
+    // The seats to which it went on, each since the one before waits for it.
+    followed: ArrayVec<usize, MOST_FOLLOWED>,
     // How many seats in a row moved nothing or weren't there.
     pub(crate) idle: u32,
     // How many in a row weren't there.
@@ -40,8 +42,7 @@ impl Course {
             first,
             own: first,
             any: 0,
-            wanted: None,
-            followed: 0,
+            followed: ArrayVec::new(),
             idle: 0,
             missing: 0,
         }
@@ -55,20 +56,12 @@ impl Course {
         if self.missing as usize / 2 > seats {
             return None;
         }
-        let number = match self.wanted.take() {
-            Some(wanted) => wanted,
+        let number = match self.followed.last() {
+            Some(number) => *number,
             None if self.idle as usize > self.count => self.next_of_all(seats),
-            None => self.next_own(seats),
+            None => self.own,
         };
         if number < seats { Some(number) } else { None }
-    }
-
-    // The next of its own.
-    fn next_own(&mut self, seats: usize) -> usize {
-        let number = self.own;
-        let further = number.saturating_add(self.apart);
-        self.own = if further < seats { further } else { self.first };
-        number
     }
 
     // The next of all. Other threads run where it has gone through them.
@@ -82,25 +75,44 @@ impl Course {
         number
     }
 
-    /// The seat that it tried wasn't there.
-    pub(crate) fn missed(&mut self) {
-        self.missing = self.missing.saturating_add(1);
-        self.idle = self.idle.saturating_add(1);
-        self.followed = 0;
+    // The next of its own, of so many seats.
+    fn go_on(&mut self, seats: usize) {
+        let further = self.own.saturating_add(self.apart);
+        self.own = if further < seats { further } else { self.first };
     }
 
-    /// The last turn of the seat that it tried was this, where so many seats are sources'.
-    pub(crate) fn left(&mut self, turn: Turn, sources: usize) {
+    /// The seat that it tried, of so many, wasn't there.
+    pub(crate) fn missed(&mut self, seats: usize) {
+        self.missing = self.missing.saturating_add(1);
+        self.idle = self.idle.saturating_add(1);
+        if self.followed.is_empty() {
+            self.go_on(seats);
+        }
+        self.followed.clear();
+    }
+
+    /// The last turn of the seat that it tried, of so many, was this. So many of them are sources'.
+    pub(crate) fn left(&mut self, turn: Turn, seats: usize, sources: usize) {
         self.missing = 0;
-        self.wanted = match turn {
-            Turn::Blocked(target) if self.followed < MOST_FOLLOWED => {
-                Some(sources.saturating_add(usize::from(target)))
-            }
-            _ => None,
-        };
-        self.followed = match self.wanted {
-            Some(_) => self.followed.saturating_add(1),
-            None => 0,
-        };
+        match turn {
+            Turn::Blocked(target) => self.follow(sources.saturating_add(usize::from(target))),
+            Turn::Moved | Turn::Idle | Turn::Closed | Turn::Memory => self.come_back(turn, seats),
+        }
+    }
+
+    // Goes on to a seat for which the last one waits. Where it has gone far, it won't come back to
+    // the last one.
+    fn follow(&mut self, number: usize) {
+        if self.followed.is_full() {
+            let _last = self.followed.pop();
+        }
+        self.followed.push(number);
+    }
+
+    // Comes back to the seat that waited for the last one, or stays with one of its own that moved.
+    fn come_back(&mut self, turn: Turn, seats: usize) {
+        if self.followed.pop().is_none() && turn != Turn::Moved {
+            self.go_on(seats);
+        }
     }
 }

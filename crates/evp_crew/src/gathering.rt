@@ -6,7 +6,7 @@ ghost use Rattle.evp_crew.specs.Carried.{AreSlots, AreFirst};
 ghost use Rattle.evp_crew.specs.Done.{IsDone, AreDone};
 ghost use Rattle.evp_crew.specs.Gathering.{AllWork};
 
-use crate::opening::push;
+use crate::seating::add;
 use crate::seat::Seat;
 use crate::worker::Worker;
 use evp_base::Memory;
@@ -78,7 +78,7 @@ fn all_of(alloc: Global, mut slots: Vec<Option<Seat>>) -> Result<Option<Vec<Seat
         let Some(seat) = slots[number].take() else {
             return Ok(None);
         };
-        push(&mut seats, seat)?;
+        add(&mut seats, seat)?;
     }
     Ok(Some(seats))
 }

@@ -2,6 +2,7 @@
 #![tactic(auto)]
 
 mod alone;
+mod beside;
 mod carried;
 mod carrying;
 mod course;

@@ -9,6 +9,7 @@ use crate::crew::Crew;
 use crate::parting::shares;
 use crate::passes::{Passes, Taker};
 use crate::seat::{Equipped, Seat};
+use crate::seating::add;
 use crate::ways::ways;
 use evp_base::Memory;
 use evp_cache::PlanCache;
@@ -97,7 +98,7 @@ impl Queues {
             let gives = shares(rt, alloc, job, &crew, actor, rests.as_mut_slice())?;
             let take = takes[actor].take();
             let passes = Passes { alloc, take, gives };
-            push(
+            add(
                 &mut seats,
                 seat(alloc, job, cache, &crew, actor as u16, passes)?,
             )?;
@@ -153,11 +154,4 @@ fn seat(
         cache: Snapshot::of(cache),
         crew: Snapshot::of(crew),
     })
-}
-
-/// Adds a seat at the end.
-pub(crate) fn push(seats: &mut Vec<Seat>, seat: Seat) -> Result<(), Memory>
-    ensures { OnOk result (seats.new.items ≡ seats.old.items ++ seat ∷ []) }
-{
-    Ok(seats.push(seat)?)
 }

@@ -91,7 +91,7 @@ impl Worker {
                 return Next::Hold(number, seat);
             }
         }
-        course.missed();
+        course.missed(office.rotas.len());
         Next::Take
     }
 
@@ -116,7 +116,7 @@ impl Worker {
             (three office.now.job.now office.now.cache.now office.now.crew.now) result }
     {
         let turn = visit(rt, office, gate, self.number, &mut seat, &mut course.idle);
-        course.left(turn, office.job.parts().sources.len());
+        course.left(turn, office.rotas.len(), office.job.parts().sources.len());
         match turn {
             Turn::Closed => {
                 let _number = seat.number();

@@ -20,8 +20,8 @@ loop-number-preserved c =
     let here = at ∙ ap (λ (o : Option SeatShape). Some o) some in (
       length-set slots number c.take.new.self ∙ c.loop-number.invariant.0,
       λ three are.
-          subst (λ (o : Option SeatShape). SoFar three (number + 1) (set slots number o) c.push.new.seats.items) (sym c.take.ensures.after)
-          (subst (SoFar three (number + 1) (set slots number None)) (sym c.in_ok-push.ensures)
+          subst (λ (o : Option SeatShape). SoFar three (number + 1) (set slots number o) c.add.new.list.items) (sym c.take.ensures.after)
+          (subst (SoFar three (number + 1) (set slots number None)) (sym c.in_ok-add.ensures)
           (so_far_one three number slots seats seat here (c.loop-number.invariant.1 three are))),
     )
 

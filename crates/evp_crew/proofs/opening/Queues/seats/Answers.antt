@@ -32,6 +32,6 @@ loop-actor-preserved g c =
       subst (AreRests crew job (actor + 1)) (sym (with_items_is c.loop-actor.rests c.shares.new.rests long)) rests,
       subst (λ (o : Option Taker). AreTakes crew job (actor + 1) (set c.loop-actor.takes.items actor o)) (sym c.take-take.ensures.after)
           (takes_one job crew actor c.loop-actor.takes.items was.1),
-      subst (AreOpening job cells crew (actor + 1)) (sym c.in_ok-push.ensures)
+      subst (AreOpening job cells crew (actor + 1)) (sym c.in_ok-add.ensures)
           (opening_one job cells crew actor c.loop-actor.seats.items c.in_ok-seat.field-0 c.in_ok-seat.ensures was.2),
     )

@@ -6,8 +6,8 @@ ghost use Rattle.evp_crew.specs.Carried.{AreSlots, AreFirst};
 ghost use Rattle.evp_crew.specs.Done.{IsDone, AreDone};
 ghost use Rattle.evp_crew.specs.Gathering.{AllWork};
 
-use crate::seating::add;
 use crate::seat::Seat;
+use crate::seating::add;
 use crate::worker::Worker;
 use evp_base::Memory;
 use std::alloc::Global;

@@ -1,5 +1,4 @@
 pub mod Accounts
-pub mod BesideFacts
 pub mod Crossing
 pub mod Gathered
 pub mod Givers

@@ -1,5 +1,4 @@
 pub mod Alone
-pub mod Beside
 pub mod Carried
 pub mod Done
 pub mod Ends

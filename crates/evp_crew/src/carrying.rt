@@ -7,7 +7,6 @@ ghost use Rattle.evp_crew.specs.Gathering.{AllWork};
 ghost use Rattle.evp_crew.specs.Rota.{three, AreServing};
 
 use crate::alone::alone;
-use crate::beside::all_beside;
 use crate::carried::Carried;
 use crate::crew::Crew;
 use crate::gate::Gate;
@@ -19,6 +18,7 @@ use evp_cache::PlanCache;
 use evp_stone::Job;
 use std::alloc::Global;
 use std::sync::Wait;
+use std::thread;
 use std::thread::Threads;
 
 /// Carries a job by so many workers, 1 to 64, each in a thread where one can be made. The gate is
@@ -67,8 +67,8 @@ fn by_workers<R: Threads + Wait + Sync, G: Gate + Sync>(
         rotas: rotas.as_slice(),
         workers,
     };
-    let all = hired(rt, alloc, &office, desks.as_mut_slice())?;
-    let all = work_all(rt, &office, gate, all);
+    let mut all = hired(rt, alloc, &office, desks.as_mut_slice())?;
+    work_all(rt, &office, gate, all.as_mut_slice());
     match gathered(alloc, count, all)? {
         Some(seats) => Ok(Some(Carried::new(alloc, job, cache, crew, seats)?)),
         None => Ok(None),
@@ -105,33 +105,25 @@ fn work_all<R: Threads + Wait + Sync, G: Gate + Sync>(
     rt: &R,
     office: &Office<'_>,
     gate: &G,
-    all: Vec<Worker>,
-) -> Vec<Worker>
+    all: &mut [Worker],
+)
     requires { AllWork office.now.rotas.now
-        (three office.now.job.now office.now.cache.now office.now.crew.now) all.items }
-    ensures { AllWork office.now.rotas.now
-        (three office.now.job.now office.now.cache.now office.now.crew.now) result.items }
+        (three office.now.job.now office.now.cache.now office.now.crew.now) all.old }
+    ensures long { length all.new ≡ length all.old }
+    ensures work { AllWork office.now.rotas.now
+        (three office.now.job.now office.now.cache.now office.now.crew.now) all.new }
 {
-    all_beside(
+    let threads = all.len().max(1);
+    thread::for_each_mut(
         rt,
-        &|worker: Worker| -> Worker
+        all,
+        threads,
+        &|_, worker: &mut Worker|
             requires { WorksAt office.now.rotas.now
-                (three office.now.job.now office.now.cache.now office.now.crew.now) worker }
+                (three office.now.job.now office.now.cache.now office.now.crew.now) worker.now }
             ensures { WorksAt office.entry.now.rotas.now
                 (three office.entry.now.job.now office.entry.now.cache.now
-                office.entry.now.crew.now) result }
-        { worked(rt, office, gate, worker) },
-        all,
-    )
-}
-
-// A worker that has worked until it ended.
-fn worked<R: Wait, G: Gate>(rt: &R, office: &Office<'_>, gate: &G, mut worker: Worker) -> Worker
-    requires { WorksAt office.now.rotas.now
-        (three office.now.job.now office.now.cache.now office.now.crew.now) worker }
-    ensures { WorksAt office.now.rotas.now
-        (three office.now.job.now office.now.cache.now office.now.crew.now) result }
-{
-    worker.work(rt, office, gate);
-    worker
+                office.entry.now.crew.now) worker.exit.now }
+        { worker.work(rt, office, gate) },
+    );
 }

@@ -5,15 +5,15 @@ use arrayvec::ArrayVec;
 use evp_stone::Turn;
 use std::thread;
 
-// To how many seats a worker goes on and comes back from, at most.
+// How many of the seats to which it went on a worker remembers, at most.
 const MOST_FOLLOWED: usize = 12;
 
 /// Which seat a worker tries next. Some are its own: those that stand as far apart as there are
 /// workers. It stays with one of these while that has something to do, sources first. From one that
 /// waits for a full queue it goes to the stone of that queue, and so on, and then comes back the same
 /// way: so records go through the graph by few at a time, and what is needed for them lies near it.
-/// While none of its own moves anything it goes through all, so no seat waits for a worker that
-/// stands still.
+/// Where another worker has such a seat it begins anew with its own. While none of its own moves
+/// anything it goes through all, so no seat waits for a worker that stands still.
 #[derive(Drop)]
 pub(crate) struct Course {
     // How far its own seats stand apart, how many they are, and the first of them.

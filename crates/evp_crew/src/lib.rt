@@ -2,7 +2,6 @@
 #![tactic(auto)]
 
 mod alone;
-mod beside;
 mod carried;
 mod carrying;
 mod course;

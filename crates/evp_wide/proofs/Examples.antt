@@ -4,7 +4,7 @@ use Rattle.evp_base.specs.declared.kind.Kind.TheVariants.{Int, Unsigned}
 use Rattle.evp_base.specs.declared.order.Order.TheVariants.{Little, Big}
 use Rattle.evp_wide.specs.Groups.{elements}
 use Rattle.evp_wide.specs.Elements.{swapped, rewritten}
-use Rattle.evp_wide.specs.Gathered.{gathered}
+use Rattle.evp_wide.specs.Gathered.{gathered, signs_gathered}
 
 pairs : elements 2 (1 ∷ 2 ∷ 3 ∷ 4 ∷ []) ≡ (1 ∷ 2 ∷ []) ∷ (3 ∷ 4 ∷ []) ∷ []
 pairs = refl
@@ -24,3 +24,7 @@ signed = refl
 -- place 128 is none
 picks : gathered (2 ∷ 128 ∷ 0 ∷ []) (7 ∷ 8 ∷ 9 ∷ []) ≡ 9 ∷ 0 ∷ 7 ∷ []
 picks = refl
+
+-- 255 where the byte's top bit is set
+signs : signs_gathered (2 ∷ 128 ∷ 0 ∷ []) (127 ∷ 8 ∷ 128 ∷ []) ≡ 255 ∷ 0 ∷ 0 ∷ []
+signs = refl

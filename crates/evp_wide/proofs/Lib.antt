@@ -2,6 +2,8 @@ pub mod Examples
 pub mod Windows
 pub mod Gathers
 pub mod Signs
+mod TwoWindows
+mod SignLanes
 pub mod Blocks
 pub mod Turned
 pub mod Reordered

@@ -39,8 +39,22 @@ signs lanes long =
     ∙ sym (get_or-map sign_byte lanes k 0 0 (omega (arith, long, within))))
 
 -- what a comparison leaves in each lane, read as a test
-abbrev compared : List ℕ → List Bool
+abbrev pub compared : List ℕ → List Bool
 compared lanes = map (top 7) (zip2 (λ a b. cond (ltb a b) 255 0) lanes (replicate 16 128))
+
+-- the same where the lanes are compared
+pub signs_chosen : (lanes : List ℕ) → length lanes ≡ 16
+    → sel_l (compared lanes) (replicate 16 0) (replicate 16 255) ≡ map sign_byte lanes
+signs_chosen lanes long =
+    ap (λ ms. sel_l ms (replicate 16 0) (replicate 16 255)) (tops_compared w8 ltb lanes (replicate 16 128)) ∙ signs lanes long
+
+-- the signs of the lanes of a shuffle
+pub signs_are : (bytes mask : List ℕ) → length mask ≡ 16 → ArePlaces mask
+    → sel_l (compared (swz_l w8 16 (take 16 bytes) 0 mask)) (replicate 16 0) (replicate 16 255) ≡ signs_gathered mask bytes
+signs_are bytes mask long places =
+    let lanes = gathered mask bytes in
+    ap (λ l. sel_l (compared l) (replicate 16 0) (replicate 16 255)) (shuffled bytes mask long places)
+    ∙ signs_chosen lanes (length-map mask (picked bytes) ∙ long)
 
 -- the signs with what stood there and a constant
 pub stored_signs : (to : ℕ) (out bytes mask keep constant : List ℕ) → to + 16 ≤ length out → length mask ≡ 16 → length keep ≡ 16
@@ -60,8 +74,6 @@ stored_signs to out bytes mask keep constant room long keep_long constant_long p
     let blended_long : length kept ≡ 16 =
     length-zip2 bit_or (map sign_byte lanes) (zip2 bit_and stood keep) (sixteen ∙ sym kept_long) ∙ sixteen in
     let put : List ℕ → List ℕ = λ l. put_chunk to out (zip2 bit_or (zip2 bit_or l (zip2 bit_and stood keep)) constant) in
-    ap (λ l. put (sel_l (compared l) (replicate 16 0) (replicate 16 255))) (shuffled bytes mask long places)
-    ∙ ap (λ ms. put (sel_l ms (replicate 16 0) (replicate 16 255))) (tops_compared w8 ltb lanes (replicate 16 128))
-    ∙ ap put (signs lanes lanes_long)
+    ap put (signs_are bytes mask long places)
     ∙ put_sixteen to out (with_constant kept constant) room
     (length-zip2 bit_or kept constant (blended_long ∙ sym constant_long) ∙ blended_long)

@@ -5,11 +5,13 @@
 mod clearing;
 mod counts;
 mod elements;
+mod fills;
 mod fronts;
 mod lanes;
 mod mover;
 mod numbers;
 mod orders;
+mod pairs;
 mod swap;
 mod widen;
 mod words;
@@ -17,10 +19,12 @@ mod zeros;
 
 pub use clearing::clear;
 pub use counts::get_count;
+pub use fills::are_fills;
 pub use fronts::put_front;
 pub use lanes::{Blend, Mask, gather, gather_blend, gather_or, gather_signs};
 pub use numbers::rewrite;
 pub use orders::reorder;
+pub use pairs::{gather_two, gather_with_signs};
 pub use swap::{swap2, swap4, swap8};
 pub use widen::{widen_signed, widen_unsigned};
 pub use words::{get_word, half_of, put_word, rewrite_number};

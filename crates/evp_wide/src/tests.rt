@@ -171,6 +171,74 @@ fn signs_fill_bytes(rt: HostRuntime) -> Result<(), Fail> {
 }
 
 #[test]
+fn two_windows_make_sixteen_bytes(rt: HostRuntime) -> Result<(), Fail> {
+    let from = [
+        0, 1, 2, 3, 4, 5, 6, 7, 8, 9, 10, 11, 12, 13, 14, 15, 16, 17, 18, 0x93,
+    ];
+    let mask = Mask {
+        places: [
+            0, 1, 128, 128, 2, 3, 255, 128, 15, 1, 128, 128, 128, 128, 128, 128,
+        ],
+    };
+    let other = Mask {
+        places: [
+            128, 128, 15, 14, 128, 128, 0, 1, 128, 14, 255, 128, 128, 128, 128, 15,
+        ],
+    };
+    let mut out = [0x11; 18];
+    gather_two(&mut out, 1, &from, 0, &mask, 4, &other);
+    assert_eq!(rt;
+        out,
+        [
+            0x11, 0, 1, 0x93, 18, 2, 3, 4, 5, 15, 0x13, 0, 0, 0, 0, 0, 0x93, 0x11,
+        ]
+    );
+    gather_with_signs(&mut out, 1, &from, 1, &mask, 4, &other);
+    assert_eq!(rt;
+        out,
+        [
+            0x11, 1, 2, 0xff, 0, 3, 4, 0, 0, 16, 2, 0, 0, 0, 0, 0, 0xff, 0x11,
+        ]
+    );
+    Ok(())
+}
+
+#[test]
+fn fills_are_signs(rt: HostRuntime) -> Result<(), Fail> {
+    // 127, -128, 128 and -129 in two bytes, the lowest first, and others
+    let from = [
+        0x7f, 0, 0x80, 0xff, 0x80, 0, 0x7f, 0xff, 0, 0, 0, 0, 0, 0, 0, 0, 0, 1, 0, 0,
+    ];
+    // 0 is the sign of 0
+    let none = Mask { places: [128; 16] };
+    assert!(rt; are_fills(&from, 2, &none, &none), "none");
+    // in the sixth lane, the byte behind the window's first is the sign of that
+    let picks = Mask {
+        places: [
+            128, 128, 128, 128, 128, 1, 128, 128, 128, 128, 128, 128, 128, 128, 128, 128,
+        ],
+    };
+    let signs = Mask {
+        places: [
+            128, 128, 128, 128, 128, 0, 128, 128, 128, 128, 128, 128, 128, 128, 128, 128,
+        ],
+    };
+    assert!(rt; are_fills(&from, 0, &picks, &signs), "127");
+    assert!(rt; are_fills(&from, 2, &picks, &signs), "-128");
+    assert!(rt; !are_fills(&from, 4, &picks, &signs), "128");
+    assert!(rt; !are_fills(&from, 1, &picks, &signs), "0 and -128");
+    // the window's last byte is 0
+    let last = Mask {
+        places: [
+            128, 128, 128, 128, 128, 128, 128, 128, 128, 128, 128, 128, 128, 128, 128, 15,
+        ],
+    };
+    assert!(rt; are_fills(&from, 1, &last, &none), "the last byte");
+    assert!(rt; !are_fills(&from, 2, &last, &none), "another one");
+    Ok(())
+}
+
+#[test]
 fn the_first_zero_byte_is_found(rt: HostRuntime) -> Result<(), Fail> {
     let mut bytes = [7; 40];
     assert_eq!(rt; zero_at(&bytes), None);

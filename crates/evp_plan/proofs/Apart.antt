@@ -6,8 +6,12 @@ use Rattle.std.proofs.lemmas.List.{length-replicate, at_drop_more}
 use Rattle.evp_plan.specs.declared.cell.Cell.{Cell}
 use Rattle.evp_plan.specs.declared.cell.Cell.TheVariants.{Keep}
 use Rattle.evp_plan.specs.declared.gather.Gather.{Gather}
+use Rattle.evp_plan.specs.declared.gather.Gathers.{Gathers}
+use Rattle.evp_plan.specs.declared.gather.Pair.{Pair}
 use Rattle.evp_plan.specs.Cells.{cell_value, painted, painted_at, painted_each, overlaid, gather_cells, gathers_over, gathered_each}
-use Rattle.evp_plan.specs.Cells.{IsGatherWithin}
+use Rattle.evp_plan.specs.Cells.{IsGatherWithin, IsPairWithin, AreWithin}
+use Rattle.evp_plan.specs.Pairs.{in_pairs, all_over}
+use Rattle.evp_plan.proofs.AllGathers.{pairs_within}
 use Rattle.evp_plan.proofs.Gathered.{no_gather, sixteen_cells, length-gathers_over}
 use Rattle.evp_plan.proofs.Painting.{painted_at-overlaid, length-painted_at, length-overlaid}
 
@@ -40,7 +44,7 @@ records_apart from a p b stride q width (suc n) upper cells out apart =
 
 -- ---- one gather more, for all records
 
-each_over : (from : List ℕ) (at stride t width n m place : ℕ) (upper cells : List Cell) (out : List ℕ) → length cells ≡ m
+pub each_over : (from : List ℕ) (at stride t width n m place : ℕ) (upper cells : List Cell) (out : List ℕ) → length cells ≡ m
     → place + length upper ≤ m → m ≤ width → ((k : ℕ) → k < n → t + k * width + m ≤ length out)
     → painted_each from at stride (t + place) width n upper (painted_each from at stride t width n cells out)
     ≡ painted_each from at stride t width n (overlaid place upper cells) out
@@ -92,20 +96,37 @@ none_each from at stride t width (suc n) m out =
     ap (painted_each from (at + stride) stride (t + width) width n (replicate m Keep)) (no_gather from at t m out)
     ∙ none_each from (at + stride) stride (t + width) width n m out
 
--- both lists, one after the other
-pub all_each : (from : List ℕ) (at stride t width n m reach : ℕ) (first second : List Gather) (cells : List Cell) (old out out' : List ℕ)
-    → cells ≡ gathers_over second (gathers_over first (replicate m Keep)) → All (IsGatherWithin m reach) first
-    → All (IsGatherWithin m reach) second → m ≤ width → ((k : ℕ) → k < n → t + k * width + m ≤ length old)
-    → out ≡ gathered_each from at stride t width n first old → out' ≡ gathered_each from at stride t width n second out
-    → out' ≡ painted_each from at stride t width n cells old
-all_each from at stride t width n m reach first second cells old out out' is within within' apart room made made' =
+list_more : (from : List ℕ) (at stride t width n m reach : ℕ) (gathers : List Gather) (cells : List Cell) (old out out' : List ℕ)
+    → All (IsGatherWithin m reach) gathers → length cells ≡ m → m ≤ width → ((k : ℕ) → k < n → t + k * width + m ≤ length old)
+    → out ≡ painted_each from at stride t width n cells old → out' ≡ gathered_each from at stride t width n gathers out
+    → out' ≡ painted_each from at stride t width n (gathers_over gathers cells) old
+list_more from at stride t width n m reach gathers cells old out out' within long apart room made made' =
+    made' ∙ ap (gathered_each from at stride t width n gathers) made
+    ∙ each_gathered from at stride t width n m reach gathers cells old within long apart room
+
+-- all lists, one after the other
+pub all_each : (from : List ℕ) (at stride t width n m reach : ℕ) (gathers : Gathers) (cells : List Cell) (old one two three : List ℕ)
+    → cells ≡ all_over gathers (replicate m Keep) → AreWithin m reach gathers
+    → m ≤ width → ((k : ℕ) → k < n → t + k * width + m ≤ length old)
+    → one ≡ gathered_each from at stride t width n gathers.plain.items old
+    → two ≡ gathered_each from at stride t width n (in_pairs gathers.pairs.items) one
+    → three ≡ gathered_each from at stride t width n gathers.mixed.items two
+    → three ≡ painted_each from at stride t width n cells old
+all_each from at stride t width n m reach gathers cells old one two three is within apart room made made' made'' =
     let keeps : List Cell = replicate m Keep in
+    let pairs = in_pairs gathers.pairs.items in
+    let first = gathers_over gathers.plain.items keeps in
+    let second = gathers_over pairs first in
     let long : length keeps ≡ m = length-replicate {A = Cell} m Keep in
-    made' ∙ ap (gathered_each from at stride t width n second)
-    (made ∙ sym (ap (gathered_each from at stride t width n first) (none_each from at stride t width n m old))
-    ∙ each_gathered from at stride t width n m reach first keeps old within long apart room)
-    ∙ each_gathered from at stride t width n m reach second (gathers_over first keeps) old within'
-    (length-gathers_over first keeps ∙ long) apart room
+    let long' : length first ≡ m = length-gathers_over gathers.plain.items keeps ∙ long in
+    let long'' : length second ≡ m = length-gathers_over pairs first ∙ long' in
+    let none = sym (none_each from at stride t width n m old) in
+    let after_first = list_more from at stride t width n m reach gathers.plain.items keeps old old one within.first long apart room
+    none made in
+    let after_second = list_more from at stride t width n m reach pairs first old one two
+    (pairs_within m reach gathers.pairs.items within.second) long' apart room after_first made' in
+    list_more from at stride t width n m reach gathers.mixed.items second old two three within.third long'' apart room
+    after_second made''
     ∙ sym (ap (λ (c : List Cell). painted_each from at stride t width n c old) is)
 
 -- where the gathers of a list have room in each record
@@ -117,3 +138,11 @@ all_room n m reach first apart room gathers items is within rooms = λ i d below
     let here = subst P (sym is) within i d below in
     let fits = rooms k under in
     omega (arith, here.0, fits))
+
+-- the same of pairs, which are all inside their records
+pub pairs_room : (n m reach first apart room : ℕ) (pairs items : List Pair) → pairs ≡ items → All (IsPairWithin m reach) items
+    → m ≤ apart → ((k : ℕ) → k < n → first + k * apart + m ≤ room)
+    → All (λ (p : Pair). (p.one.to + 16 ≤ apart) × ((k : ℕ) → k < n → first + k * apart + p.one.to + 16 ≤ room)) pairs
+pairs_room n m reach first apart room pairs items is within wide rooms = λ i d below.
+    (let here = subst (λ (ps : List Pair). All (IsPairWithin m reach) ps) (sym is) within i d below in
+    (omega (arith, here.0.0, wide), λ k under. (let fits = rooms k under in omega (arith, here.0.0, fits))))

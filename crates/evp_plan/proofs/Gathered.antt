@@ -6,7 +6,7 @@ use Rattle.std.proofs.Math.Nat.{mod-eq_of_lt}
 use Rattle.std.proofs.lemmas.Bool.Decides.{nat_tests}
 use Rattle.std.proofs.lemmas.Grind.{and_numeral}
 use Rattle.std.proofs.lemmas.Bool.{lt-ltb, le-ltb}
-use Rattle.std.proofs.lemmas.List.{get_or-drop, at_drop_more, length-replicate}
+use Rattle.std.proofs.lemmas.List.{get_or-drop, at_drop_more}
 use Rattle.std.specs.Int.Bits.{bit_or, bit_and, or_zero_l, or_zero_r, and_zero_r}
 use lib.Lanes.{zip2}
 use Rattle.evp_base.proofs.Digits.{AreBytes}
@@ -31,18 +31,24 @@ clean_cases : (place keep constant : ℕ) → is_clean_byte place keep constant 
 clean_cases place keep constant clean = grind (arith, nat_tests)
 
 -- a byte that is picked, or its sign
-abbrev read_as : Bool → ℕ → ℕ
+abbrev pub read_as : Bool → ℕ → ℕ
 read_as false byte = byte
 read_as true byte = sign_byte byte
 
-none_read : (signed : Bool) → read_as signed 0 ≡ 0
+pub none_read : (signed : Bool) → read_as signed 0 ≡ 0
 none_read false = refl
 none_read true = refl
 
-value_read : (signed : Bool) (from : List ℕ) (at offset old : ℕ)
+pub value_read : (signed : Bool) (from : List ℕ) (at offset old : ℕ)
     → cell_value from at (picked_cell signed offset) old ≡ read_as signed (slice_index from (at + offset))
 value_read false from at offset old = refl
 value_read true from at offset old = refl
+
+-- a byte of a window is one of the record's
+pub byte_there : (from : List ℕ) (at offset place : ℕ) → place < 16
+    → picked (drop (at + offset) from) place ≡ slice_index from (at + (offset + place))
+byte_there from at offset place below =
+    rw (lt-ltb place 16 below) (get_or-drop (at + offset) from place 0 ∙ ap (λ (n : ℕ). slice_index from n) (omega arith))
 
 -- the byte that is written, by its three sources
 abbrev blended : Bool → List ℕ → ℕ → ℕ → ℕ → ℕ → ℕ
@@ -56,8 +62,7 @@ byte_is signed from at offset place keep constant old below clean =
     let read = read_as signed (picked window place) in
     elim (clean_cases place keep constant clean) [
       | inl one ↦
-          let there : picked window place ≡ slice_index from (at + (offset + place)) =
-          rw (lt-ltb place 16 one.0) (get_or-drop (at + offset) from place 0 ∙ ap (λ (n : ℕ). slice_index from n) (omega arith)) in
+          let there = byte_there from at offset place one.0 in
           let cell : blend_cell signed offset place keep constant ≡ picked_cell signed (offset + place) = rw (lt-ltb place 16 one.0) refl in
           ap (λ (k : ℕ). blended signed window place k constant old) one.1.0 ∙ ap (λ (k : ℕ). blended signed window place 0 k old) one.1.1
           ∙ or_zero_r (bit_or read (bit_and old 0)) ∙ ap (bit_or read) (and_zero_r old) ∙ or_zero_r read
@@ -94,12 +99,12 @@ clean_first place keep constant places keeps constants clean = both (is_clean_by
     both true b is = (refl, is)
     both false b is = cc
 
-first_lane : (signed : Bool) (place : ℕ) (places window : List ℕ)
+pub first_lane : (signed : Bool) (place : ℕ) (places window : List ℕ)
     → lanes signed (place ∷ places) window ≡ read_as signed (picked window place) ∷ lanes signed places window
 first_lane false place places window = refl
 first_lane true place places window = refl
 
-no_lane : (signed : Bool) (window : List ℕ) → lanes signed [] window ≡ []
+pub no_lane : (signed : Bool) (window : List ℕ) → lanes signed [] window ≡ []
 no_lane false window = refl
 no_lane true window = refl
 
@@ -222,27 +227,6 @@ painted-zeros from at zero [] long = refl
 painted-zeros from at zero (old ∷ out) long = absurd (omega (arith, long))
 painted-zeros from at (suc n) [] long = absurd (omega (arith, long))
 painted-zeros from at (suc n) (old ∷ out) long = ap (λ (l : List ℕ). 0 ∷ l) (painted-zeros from at n out (omega (arith, long)))
-
--- cells as a method sees them
-pub cells_long : (cells : List Cell) (first second : List Gather) (n : ℕ)
-    → cells ≡ gathers_over second (gathers_over first (replicate n Keep)) → length cells ≡ n
-cells_long cells first second n is =
-    ap length is ∙ length-gathers_over second (gathers_over first (replicate n Keep)) ∙ length-gathers_over first (replicate n Keep)
-    ∙ length-replicate {A = Cell} n Keep
-
--- both lists, one after the other
-pub all_gathers : (from : List ℕ) (at t n reach : ℕ) (first second : List Gather) (cells : List Cell) (old out out' : List ℕ)
-    → cells ≡ gathers_over second (gathers_over first (replicate n Keep)) → All (IsGatherWithin n reach) first
-    → All (IsGatherWithin n reach) second → t + n ≤ length old → out ≡ gathered_at from at t first old
-    → out' ≡ gathered_at from at t second out → out' ≡ painted_at from at t cells old
-all_gathers from at t n reach first second cells old out out' is within within' room made made' =
-    let keeps : List Cell = replicate n Keep in
-    let long : length keeps ≡ n = length-replicate {A = Cell} n Keep in
-    made' ∙ ap (gathered_at from at t second)
-    (made ∙ sym (ap (gathered_at from at t first) (no_gather from at t n old))
-    ∙ painted_over from at t n reach first keeps old within long room)
-    ∙ painted_over from at t n reach second (gathers_over first keeps) old within' (length-gathers_over first keeps ∙ long) room
-    ∙ sym (ap (λ (c : List Cell). painted_at from at t c old) is)
 
 -- where the gathers of a list have room
 pub all_fit : (n reach at t long room : ℕ) (gathers items : List Gather) → gathers ≡ items → All (IsGatherWithin n reach) items

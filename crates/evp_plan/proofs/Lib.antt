@@ -20,14 +20,23 @@ pub mod FittingWords
 pub mod NumberCells
 pub mod Painting
 pub mod Gathered
+mod AllGathers
+mod Paired
+mod PairExamples
 mod OneGather
 mod Apart
 mod Plain
 pub mod Painted
 mod WordLists
+mod CutWords
+mod FillLists
+mod LaneLists
+mod Reaches
+mod CutFills
 pub mod Compiled
 mod QuietExamples
 mod WordExamples
+mod FillExamples
 pub mod QuietLists
 pub mod QuietSteps
 mod FourLists

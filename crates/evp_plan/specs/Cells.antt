@@ -15,6 +15,7 @@ use Rattle.evp_wide.specs.declared.lanes.Blend.{Blend}
 use Rattle.evp_plan.specs.declared.cell.Cell.{Cell}
 use Rattle.evp_plan.specs.declared.gather.Gather.{Gather}
 use Rattle.evp_plan.specs.declared.gather.Gathers.{Gathers}
+use Rattle.evp_plan.specs.declared.gather.Pair.{Pair}
 use Rattle.evp_plan.specs.declared.step.Op.{Op}
 use Rattle.evp_plan.specs.declared.step.Op.TheVariants.{Number, Text, Nest, Each, Many}
 use Rattle.evp_plan.specs.declared.step.Origin.{Origin}
@@ -152,11 +153,17 @@ gathers_over (gather ∷ gathers) cells = gathers_over gathers
 abbrev pub IsGatherWithin : ℕ → ℕ → Gather → Type 0
 IsGatherWithin length reach gather = (gather.to + 16 ≤ length) × (gather.at + 16 ≤ reach)
 
+-- both of a pair are
+abbrev pub IsPairWithin : ℕ → ℕ → Pair → Type 0
+IsPairWithin length reach pair = IsGatherWithin length reach pair.one × IsGatherWithin length reach
+    pair.two
+
 -- all are, and the first are plain
 pub record AreWithin (length reach : ℕ) (gathers : Gathers) : Type 0 where
   pub plain : All (λ gather. gather.plain ≡ true) gathers.plain.items
   pub first : All (IsGatherWithin length reach) gathers.plain.items
-  pub second : All (IsGatherWithin length reach) gathers.mixed.items
+  pub second : All (IsPairWithin length reach) gathers.pairs.items
+  pub third : All (IsGatherWithin length reach) gathers.mixed.items
 
 -- the bytes, where gathers one after another made those of the record at t
 abbrev pub gathered_at : List ℕ → ℕ → ℕ → List Gather → List ℕ → List ℕ

@@ -3,11 +3,15 @@ pub mod Building
 pub mod Cells
 pub mod Clean
 pub mod Counts
+pub mod Cuts
 pub mod Faults
+pub mod Fills
 pub mod Fours
+pub mod Lanes
 pub mod Matching
 pub mod Measuring
 pub mod Moving
+pub mod Pairs
 pub mod Planned
 pub mod Program
 pub mod Quicks

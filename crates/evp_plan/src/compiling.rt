@@ -7,8 +7,9 @@ ghost use Rattle.evp_plan.specs.Cells.{bytes_from, turned, resized, top_offset, 
 ghost use Rattle.evp_plan.specs.Cells.{number_cells, over, overlaid, blend_cell, gather_cells};
 ghost use Rattle.evp_plan.specs.Cells.{gathers_over, op_cells, steps_over, end_of, source_end};
 ghost use Rattle.evp_plan.specs.Cells.{reach_of, is_plain_op};
+ghost use Rattle.evp_plan.specs.Pairs.{in_pairs, all_over};
 
-use crate::gather::Gather;
+use crate::gather::{Gather, Gathers, Pair};
 use crate::{Cell, Op, Origin, Source, Step, Task};
 use evp_base::{Kind, Memory, Order};
 use std::alloc::Global;
@@ -143,26 +144,59 @@ fn gather_cells(alloc: Global, gather: &Gather) -> Result<Vec<Cell>, Memory>
     Ok(cells)
 }
 
+// The cells, with those of the gather laid over, where it has room.
+fn lay_gather(alloc: Global, gather: &Gather, cells: &mut [Cell]) -> Result<bool, Memory>
+    ensures { IfOk result (λ fits. fits ≡ true
+        → cells.new ≡ overlaid gather.now.to (gather_cells gather.now) cells.old) }
+{
+    let to = gather.to as usize;
+    if gather.at > MOST || to + 16 > cells.len() {
+        return Ok(false);
+    }
+    let upper = gather_cells(alloc, gather)?;
+    if upper.len() != 16 {
+        return Ok(false);
+    }
+    lay_over(cells, to, upper.as_slice());
+    Ok(true)
+}
+
 // The cells, with those of the gathers laid over, where they have room.
-pub(crate) fn lay_gathers(
-    alloc: Global,
-    gathers: &[Gather],
-    cells: &mut [Cell],
-) -> Result<bool, Memory>
+fn lay_gathers(alloc: Global, gathers: &[Gather], cells: &mut [Cell]) -> Result<bool, Memory>
     ensures { IfOk result (λ fits. fits ≡ true → cells.new ≡ gathers_over gathers.now cells.old) }
 {
     for gather in gathers {
-        let to = gather.to as usize;
-        if gather.at > MOST || to + 16 > cells.len() {
+        if !lay_gather(alloc, gather, cells)? {
             return Ok(false);
         }
-        let upper = gather_cells(alloc, gather)?;
-        if upper.len() != 16 {
-            return Ok(false);
-        }
-        lay_over(cells, to, upper.as_slice());
     }
     Ok(true)
+}
+
+// The cells, with those of the pairs laid over, where they have room.
+fn lay_pairs(alloc: Global, pairs: &[Pair], cells: &mut [Cell]) -> Result<bool, Memory>
+    ensures { IfOk result (λ fits. fits ≡ true
+        → cells.new ≡ gathers_over (in_pairs pairs.now) cells.old) }
+{
+    for pair in pairs {
+        if !lay_gather(alloc, &pair.one, cells)? || !lay_gather(alloc, &pair.two, cells)? {
+            return Ok(false);
+        }
+    }
+    Ok(true)
+}
+
+// The cells, with those of all gathers of a record laid over, where they have room.
+pub(crate) fn lay_all(alloc: Global, gathers: &Gathers, cells: &mut [Cell]) -> Result<bool, Memory>
+    ensures { IfOk result (λ fits. fits ≡ true → cells.new ≡ all_over gathers.now cells.old) }
+{
+    if !lay_gathers(alloc, gathers.plain.as_slice(), cells)? {
+        return Ok(false);
+    }
+    if !lay_pairs(alloc, gathers.pairs.as_slice(), cells)? {
+        return Ok(false);
+    }
+    lay_gathers(alloc, gathers.mixed.as_slice(), cells)
 }
 
 // The most bytes of a record that is moved by gathers.

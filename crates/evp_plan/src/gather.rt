@@ -1,7 +1,7 @@
 //! Sixteen bytes of a receiver's record made at once.
 
 ghost use Rattle.std.specs.Prelude.{◌≡◌, ◌+◌, true};
-ghost use Rattle.evp_plan.specs.Clean.{is_clean, IsPlain};
+ghost use Rattle.evp_plan.specs.Clean.{is_clean, are_paired, IsPlain};
 
 use evp_wide::Blend;
 
@@ -22,10 +22,23 @@ pub(crate) struct Gather {
     ghost clean: { is_clean blend.mask.places blend.keep blend.constant ≡ true },
 }
 
-// Gathers of one record, each of which is run once: first those that only write what they pick.
+// Two gathers of the same sixteen bytes that are run at once: a plain one, and one that picks bytes,
+// or signs, where the first picks none, and keeps the others.
+#[derive(Clone, Copy, Debug)]
+pub(crate) struct Pair {
+    pub(crate) one: Gather,
+    pub(crate) two: Gather,
+    ghost plain: { one.plain ≡ true },
+    ghost to: { two.to ≡ one.to },
+    ghost paired: { are_paired one.blend.mask.places two.blend.mask.places two.blend.keep ≡ true },
+}
+
+// Gathers of one record, each of which is run once: first those that only write what they pick, then
+// the pairs, then the others.
 #[derive(Debug, Drop)]
 pub(crate) struct Gathers {
     pub(crate) plain: Vec<Gather>,
+    pub(crate) pairs: Vec<Pair>,
     pub(crate) mixed: Vec<Gather>,
 }
 

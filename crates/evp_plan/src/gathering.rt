@@ -1,11 +1,13 @@
 //! Which gathers make a record's bytes.
 
 ghost use Rattle.std.specs.Prelude.{◌≡◌, ◌+◌, ◌<◌, ◌≤◌, ◌^◌, ℕ, true, length, IfOk, OnOk, IfSome};
-ghost use Rattle.evp_plan.specs.Cells.{IsGatherWithin, AreWithin};
+ghost use Rattle.std.specs.List.{All};
+ghost use Rattle.evp_plan.specs.Cells.{IsGatherWithin, IsPairWithin, AreWithin};
 ghost use Rattle.evp_plan.specs.Clean.{is_clean, is_clean_byte, IsPlain};
 
 use crate::Cell;
-use crate::gather::{Gather, Gathers};
+use crate::gather::{Gather, Gathers, Pair};
+use crate::pairing::pair_of;
 use evp_base::Memory;
 use evp_wide::{Blend, Mask};
 use std::alloc::Global;
@@ -25,6 +27,7 @@ pub(crate) fn gathers_for(alloc: Global, cells: &[Cell], reach: u32) -> Result<G
 {
     let mut gathers = Gathers {
         plain: Vec::new(alloc),
+        pairs: Vec::new(alloc),
         mixed: Vec::new(alloc),
     };
     if cells.len() < 16 || reach < 16 {
@@ -57,35 +60,53 @@ fn add_gathers(
     ensures { OnOk result (AreWithin (length cells.now) reach gathers.new) }
 {
     let block = &cells[to..to + 16];
-    let whole = !signed && keeps_none(block);
+    let whole = keeps_none(block);
     let mut begin = 0;
     for window in 0..WINDOWS {
         let first = first_picked(block, begin, signed);
-        // the first gather of bytes makes the constants too
-        if first.is_none() && (signed || window > 0) {
+        // the first gather of bytes makes the constants
+        let makes = !signed && window == 0;
+        if first.is_none() && !makes {
             return Ok(());
         }
         let at = first.unwrap_or(0).min(reach - 16);
-        let fresh = whole && window == 0;
-        let gather = gather_for(block, to as u32, at, signed, fresh);
+        let gather = gather_for(block, to as u32, at, signed, makes, makes && whole);
         add_gather(gather, gathers)?;
         begin = at + 16;
     }
     Ok(())
 }
 
-// Adds the gather, where there is one.
+// The last of some plain gathers and one behind it at once, where they fit.
+fn pair_with_last(plain: &[Gather], gather: &Gather) -> Option<Pair>
+    ensures { IfSome result (λ pair. (length : ℕ) (reach : ℕ)
+        → All (IsGatherWithin length reach) plain.now
+        → IsGatherWithin length reach gather.now → IsPairWithin length reach pair) }
+{
+    if plain.is_empty() {
+        return None;
+    }
+    pair_of(&plain[plain.len() - 1], gather)
+}
+
+// Adds the gather, where there is one; at once with the plain one before it, where they fit.
 fn add_gather(gather: Option<Gather>, gathers: &mut Gathers) -> Result<(), Memory>
     ensures { OnOk result ((length : ℕ) (reach : ℕ) → AreWithin length reach gathers.old
         → IfSome gather (IsGatherWithin length reach) → AreWithin length reach gathers.new) }
 {
-    if let Some(gather) = gather {
-        if gather.plain {
-            gathers.plain.push(gather)?;
-        } else {
-            gathers.mixed.push(gather)?;
-        }
+    let Some(gather) = gather else {
+        return Ok(());
+    };
+    if gather.plain {
+        gathers.plain.push(gather)?;
+        return Ok(());
     }
+    let Some(pair) = pair_with_last(gathers.plain.as_slice(), &gather) else {
+        gathers.mixed.push(gather)?;
+        return Ok(());
+    };
+    gathers.plain.pop();
+    gathers.pairs.push(pair)?;
     Ok(())
 }
 
@@ -99,13 +120,21 @@ fn keeps_none(cells: &[Cell]) -> bool {
     true
 }
 
-// The gather that makes of sixteen cells those that it can, by the window that begins there. A fresh
-// one puts zeros for the others, which gathers behind it make; else they stay as they stood.
-fn gather_for(block: &[Cell], to: u32, at: u32, signed: bool, fresh: bool) -> Option<Gather>
+// The gather that makes of sixteen cells those that it can, by the window that begins there, and the
+// constants, if it makes them. A fresh one puts zeros for the others, which gathers behind it make;
+// else they stay as they stood.
+fn gather_for(
+    block: &[Cell],
+    to: u32,
+    at: u32,
+    signed: bool,
+    makes: bool,
+    fresh: bool,
+) -> Option<Gather>
     requires { length block.now ≡ 16 }
     ensures { IfSome result (λ gather. (gather.to ≡ to) × (gather.at ≡ at)) }
 {
-    let sixteen = sixteen_of(block, at, signed, fresh);
+    let sixteen = sixteen_of(block, at, signed, makes, fresh);
     let blend = blend_of(&sixteen.places, &sixteen.keep, &sixteen.constant)?;
     let plain = is_plain(signed, &blend);
     Some(Gather {
@@ -167,8 +196,8 @@ fn place_of(cell: Cell, at: u32, signed: bool) -> u8 {
     }
 }
 
-// What the cells pick, keep and set; one that does nothing of this is kept, or zero in a fresh one.
-fn sixteen_of(block: &[Cell], at: u32, signed: bool, fresh: bool) -> Sixteen
+// What the cells pick, and set, if it makes constants; the others are kept, or zero in a fresh one.
+fn sixteen_of(block: &[Cell], at: u32, signed: bool, makes: bool, fresh: bool) -> Sixteen
     requires { length block.now ≡ 16 }
 {
     let mut sixteen = Sixteen {
@@ -180,7 +209,7 @@ fn sixteen_of(block: &[Cell], at: u32, signed: bool, fresh: bool) -> Sixteen
         let place = place_of(block[k], at, signed);
         match block[k] {
             _ if place < 16 => sixteen.places[k] = place,
-            Cell::Constant(byte) if !signed => sixteen.constant[k] = byte,
+            Cell::Constant(byte) if makes => sixteen.constant[k] = byte,
             _ if fresh => {}
             _ => sixteen.keep[k] = 0xff,
         }

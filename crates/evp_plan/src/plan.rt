@@ -88,7 +88,7 @@ impl Plan {
         let moves = all_moves(alloc, order, sender, table.as_slice())?;
         let whole = whole_of(alloc, order, sender, last, fixed)?;
         let tests = tests_in(alloc, table.as_slice())?;
-        let quick = QuickTests::of_steps(alloc, last_list(tests.as_slice()))?;
+        let quick = QuickTests::of_steps(alloc, sender, last_list(tests.as_slice()))?;
         Ok(Plan {
             order,
             pointer: to.pointer(),

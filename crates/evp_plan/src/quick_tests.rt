@@ -1,11 +1,14 @@
 //! Quick tests of a list of steps.
 
-ghost use Rattle.std.specs.Prelude.{◌≡◌, ◌+◌, ◌≤◌, length, IsTrue, IfOk, IfSome};
+ghost use Rattle.std.specs.Prelude.{◌≡◌, ◌+◌, ◌≤◌, true, length, IsTrue, IfOk, IfSome};
 ghost use Rattle.std.specs.List.{All};
+ghost use Rattle.evp_plan.specs.Lanes.{AreLanesOf};
 ghost use Rattle.evp_plan.specs.Quicks.{steps_in, words_in, has_words, have_words};
 ghost use Rattle.evp_plan.specs.Quicks.{IsFit, IsInside, IsThere};
 
+use crate::fill::{Lanes, Window};
 use crate::fitting::{all_quick, words_in};
+use crate::lane_tests::{have_fills, lanes_of};
 use crate::{Quick, Step, Words};
 use evp_base::{Memory, Order};
 use std::alloc::Global;
@@ -22,12 +25,15 @@ pub struct QuickTests {
     eights: Vec<Words>,
     // Whether all of them have words.
     numbers: bool,
+    // Windows that tell their words, where there are such.
+    lanes: Option<Lanes>,
 }
 
 impl Model for QuickTests {
-    ghost use Rattle.std.specs.Prelude.{◌≡◌, List};
+    ghost use Rattle.std.specs.Prelude.{◌≡◌, List, IfSome};
     ghost use Rattle.std.specs.List.{All};
     ghost use Rattle.evp_plan.specs.declared.quick.Quick.{Quick};
+    ghost use Rattle.evp_plan.specs.Lanes.{AreLanesOf};
     ghost use Rattle.evp_plan.specs.Quicks.{words_in, have_words, IsFit};
 
     ghost Value = { List Quick };
@@ -39,7 +45,8 @@ impl Model for QuickTests {
         × ((t.twos.items ≡ words_in 2 t.list.items)
         × ((t.fours.items ≡ words_in 4 t.list.items)
         × ((t.eights.items ≡ words_in 8 t.list.items)
-        × (t.numbers ≡ have_words t.list.items))))) };
+        × ((t.numbers ≡ have_words t.list.items)
+        × IfSome t.lanes (λ lanes. AreLanesOf lanes.order t.list.items lanes.windows.items)))))) };
 }
 
 // Whether words of so many bytes, of each entry, stand in the record at `at`.
@@ -72,8 +79,8 @@ fn has_words(test: &Quick) -> bool
 }
 
 impl QuickTests {
-    // Those of these steps.
-    pub(crate) fn of_steps(alloc: Global, steps: &[Step]) -> Result<Self, Memory>
+    // Those of these steps, for senders of that order in the first place.
+    pub(crate) fn of_steps(alloc: Global, order: Order, steps: &[Step]) -> Result<Self, Memory>
         ensures { IfOk result (λ tests. steps_in tests ≡ steps.now) }
     {
         let list = all_quick(alloc, steps)?;
@@ -83,6 +90,7 @@ impl QuickTests {
             fours: words_in(alloc, 4, list.as_slice())?,
             eights: words_in(alloc, 8, list.as_slice())?,
             numbers: have_words(list.as_slice()),
+            lanes: lanes_of(alloc, order, list.as_slice())?,
             list,
         })
     }
@@ -105,6 +113,48 @@ impl QuickTests {
     /// Whether the words of each stand in the record at `at`. Takes no memory.
     #[inline(always)]
     pub fn all_there(&self, bytes: &[u8], at: usize, order: Order) -> bool
+        requires { All (λ test. IfSome test.words (IsInside at bytes.now)) self.now }
+        ensures { IsTrue result → All (λ test. IfSome test.words (IsThere at order bytes.now))
+            self.now }
+    {
+        if let Some(windows) = self.windows_for(order) {
+            return have_fills(windows, bytes, at);
+        }
+        self.each_there(bytes, at, order)
+    }
+
+    /// Whether each of them is a number, and windows alone tell that its words stand in the record at
+    /// `at`. Takes no memory.
+    #[inline(always)]
+    pub fn are_told(&self, bytes: &[u8], at: usize, order: Order) -> bool
+        requires { All (λ test. IfSome test.words (IsInside at bytes.now)) self.now }
+        ensures numbers { IsTrue result → have_words self.now ≡ true }
+        ensures there { IsTrue result → All (λ test. IfSome test.words (IsThere at order bytes.now))
+            self.now }
+    {
+        if !self.numbers {
+            return false;
+        }
+        match self.windows_for(order) {
+            Some(windows) => have_fills(windows, bytes, at),
+            None => false,
+        }
+    }
+
+    // The windows that tell the words of senders of that order, where there are such.
+    #[inline(always)]
+    fn windows_for(&self, order: Order) -> Option<&[Window]>
+        ensures { IfSome result (λ windows. AreLanesOf order self.now windows.now) }
+    {
+        match &self.lanes {
+            Some(lanes) if lanes.order == order => Some(lanes.windows.as_slice()),
+            _ => None,
+        }
+    }
+
+    // Whether the words of each stand in the record at `at`, one by one.
+    #[inline(always)]
+    fn each_there(&self, bytes: &[u8], at: usize, order: Order) -> bool
         requires { All (λ test. IfSome test.words (IsInside at bytes.now)) self.now }
         ensures { IsTrue result → All (λ test. IfSome test.words (IsThere at order bytes.now))
             self.now }

@@ -1,5 +1,9 @@
+ghost use Rattle.std.specs.Prelude.{◌≤◌, IsTrue};
+ghost use Rattle.evp_base.specs.Numbers.{is_width};
+
 use super::*;
-use evp_base::Step as PathStep;
+use crate::lane_tests::lanes_of;
+use evp_base::{Order, Step as PathStep};
 use evp_format::read_description;
 use std::test::Fail;
 
@@ -65,5 +69,58 @@ fn plans(rt: HostRuntime) -> Result<(), Fail> {
         }
         _ => assert!(rt; false, "partner"),
     }
+    Ok(())
+}
+
+// A test of a number by these words.
+fn test_of(offset: u32, size: u32, top: u64, under: u64) -> Quick
+    requires allowed { IsTrue (is_width size) }
+    requires apart { top ≤ under }
+{
+    let task = Task {
+        field: 0,
+        offset: 0,
+        size: 1,
+        op: Op::Text(None),
+    };
+    Quick {
+        step: Step { task, inner: None },
+        words: Some(Words {
+            offset,
+            size,
+            top,
+            under,
+        }),
+    }
+}
+
+// How many windows tell the words of these tests.
+fn windows_of(rt: &HostRuntime, order: Order, tests: &[Quick]) -> usize {
+    match lanes_of(rt.alloc(), order, tests) {
+        Ok(Some(lanes)) => lanes.windows.len(),
+        _ => 0,
+    }
+}
+
+#[test]
+fn windows_tell_numbers(rt: HostRuntime) -> Result<(), Fail> {
+    // six of twelve numbers of 64 bytes: signed numbers for smaller ones, an unsigned one for a
+    // smaller one, an unsigned one for a signed one, and a signed one for an unsigned one
+    let tests = [
+        test_of(6, 2, 0x7f, 0xff7f),
+        test_of(8, 8, 0x7fff_ffff, 0xffff_ffff_7fff_ffff),
+        test_of(20, 4, 0xffff, 0xffff_ffff),
+        test_of(32, 8, 0x7fff_ffff_ffff_ffff, 0xffff_ffff_ffff_ffff),
+        test_of(40, 1, 0x7f, 0xff),
+        test_of(56, 8, 0x7fff, 0xffff_ffff_ffff_7fff),
+    ];
+    assert_eq!(rt; windows_of(&rt, Order::Little, &tests), 4, "little");
+    assert_eq!(rt; windows_of(&rt, Order::Big, &tests), 3, "big");
+    // no window for one test alone, nor where the words end before the sixteenth byte
+    assert_eq!(rt; windows_of(&rt, Order::Little, &tests[5..]), 0, "one");
+    assert_eq!(rt; windows_of(&rt, Order::Little, &tests[..1]), 0, "short");
+    // a boolean has no such bytes
+    let booleans = [test_of(0, 8, 1, 0xffff_ffff_ffff_ffff), tests[5]];
+    assert_eq!(rt; windows_of(&rt, Order::Little, &booleans), 0, "boolean");
     Ok(())
 }

@@ -248,6 +248,15 @@ numbers_pass plan limit image tests at size list fit numbers there can are =
     (tests_can plan image n (steps_in tests) at 0 list can k test.step (step_found tests k d below)) are)
     (length tests) (omega arith))
 
+-- a plan that tests numbers whose words all stand there finds the size of the fixed part
+pub numbers_told : (plan : Planned) (limit : ℕ) (image : Image) (tests : List Quick)
+    → Tested plan (length plan.table - 1) (steps_in tests) → All IsFit tests → have_words tests ≡ true
+    → All (λ (test : Quick). IfSome test.words (IsThere 0 image.order image.bytes)) tests
+    → CanRun plan image (program_at plan.table (length plan.table - 1)) 0 0 → AreBytes image.bytes → plan.fixed ≤ limit
+    → Ok plan.fixed ≡ outcome (measured_whole plan image limit)
+numbers_told plan limit image tests list fit numbers there can are within =
+    rw (le-ltb limit plan.fixed within) (numbers_pass plan limit image tests 0 plan.fixed list fit numbers there can are)
+
 pub none_left : (n : ℕ) → true ≡ (n == 0) → n ≡ 0
 none_left n is = grind (arith, nat_tests, is)
 

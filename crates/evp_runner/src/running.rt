@@ -1,6 +1,6 @@
 //! Running plans.
 
-ghost use Rattle.std.specs.Prelude.{◌≡◌, ◌*◌, ◌^◌, ◌<◌, ◌≤◌, IsTrue, length, replicate, IfOk, IfSome};
+ghost use Rattle.std.specs.Prelude.{◌≡◌, ◌*◌, ◌^◌, ◌<◌, ◌≤◌, ℕ, IsTrue, length, replicate, IfOk, IfSome};
 ghost use Rattle.std.specs.Prelude.{IfErr, Ok};
 ghost use Rattle.evp_base.specs.Numbers.{is_width};
 ghost use Rattle.evp_format.specs.Converting.{convert};
@@ -54,7 +54,7 @@ pub(crate) fn measure_quickly(plan: &Plan, item: &Checked, limit: u32) -> Option
 }
 
 // The packed size, where it is easily seen that nothing is refused: without a call where the plan
-// can refuse nothing.
+// can refuse nothing, or windows tell of all numbers that it tests.
 #[inline(always)]
 fn quick_whole(plan: &Plan, item: &Checked, limit: u32) -> Option<u32>
     requires { IsPlanFrom plan.now item.now.layout }
@@ -71,7 +71,24 @@ fn quick_whole(plan: &Plan, item: &Checked, limit: u32) -> Option<u32>
         are_bytes(bytes);
         return Some(plan.fixed());
     }
+    if is_told(plan, item) {
+        return Some(plan.fixed());
+    }
     tested_whole(plan, item, limit)
+}
+
+// Whether the plan tests numbers alone, and windows tell that each of them fits.
+#[inline(always)]
+fn is_told(plan: &Plan, item: &Checked) -> bool
+    requires { IsPlanFrom plan.now item.now.layout }
+    ensures { IsTrue result → (limit : ℕ) → plan.now.fixed ≤ limit → Ok plan.now.fixed
+        ≡ outcome (measured_whole plan.now (image_of item.now.layout item.now.bytes) limit) }
+{
+    let _held = item.bytes();
+    let sender = sender_of(item);
+    let tests = plan.quick();
+    let _list = tests.as_slice();
+    tests.are_told(sender.bytes, 0, sender.order)
 }
 
 // The packed size, where the tests of the plan easily show that nothing is refused.

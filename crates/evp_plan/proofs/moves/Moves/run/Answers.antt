@@ -4,16 +4,18 @@ use Rattle.evp_format.proofs.Descriptions.{bytes_are}
 use Rattle.evp_plan.specs.Cells.{Moving, gathered_at, IsGatherWithin}
 use Rattle.evp_plan.specs.declared.gather.Four.{Four}
 use Rattle.evp_plan.specs.declared.gather.Gather.{Gather}
+use Rattle.evp_plan.specs.declared.gather.Pair.{Pair}
 use Rattle.evp_plan.specs.Fours.{in_fours}
+use Rattle.evp_plan.specs.Pairs.{in_pairs}
+use Rattle.evp_plan.proofs.AllGathers.{all_gathers, cells_long, pairs_fit}
 use Rattle.evp_plan.proofs.FourLists.{both_parts, fours_fit, rest_all}
-use Rattle.evp_plan.proofs.Gathered.{all_gathers, all_fit, cells_long}
+use Rattle.evp_plan.proofs.Gathered.{all_fit}
 use Rattle.evp_plan.proofs.moves.Moves.run.Goals as goal
 
 pub run_in_fours-requires : goal.run_in_fours-requires
 run_in_fours-requires c =
     let m = c.self.inside in
-    let long = cells_long c.args.self.now.cells m.gathers.plain.items m.gathers.mixed.items m.length
-    (sym (ap (λ (m : Moving). m.cells) c.self.view_is)) in
+    let long = cells_long c.args.self.now.cells m.gathers m.length (sym (ap (λ (m : Moving). m.cells) c.self.view_is)) in
     let reach = ap (λ (m : Moving). m.reach) c.self.view_is in
     let reaches = c.requires.reach in
     let fits = c.requires.room in
@@ -31,8 +33,7 @@ run_gathers-requires-clause-plain c = λ _.
 pub run_gathers-requires-clause-within : goal.run_gathers-requires-clause-within
 run_gathers-requires-clause-within c =
     let m = c.self.inside in
-    let long = cells_long c.args.self.now.cells m.gathers.plain.items m.gathers.mixed.items m.length
-    (sym (ap (λ (m : Moving). m.cells) c.self.view_is)) in
+    let long = cells_long c.args.self.now.cells m.gathers m.length (sym (ap (λ (m : Moving). m.cells) c.self.view_is)) in
     let reach = ap (λ (m : Moving). m.reach) c.self.view_is in
     let reaches = c.requires.reach in
     let fits = c.requires.room in
@@ -42,19 +43,32 @@ run_gathers-requires-clause-within c =
     (rest_all (IsGatherWithin m.length m.reach) m.gathers.plain.items m.rest.items m.fours.items c.self.invariant.1
     c.self.invariant.0.first) (omega (arith, reach, reaches)) (omega (arith, long, fits, same))
 
-pub run_gathers-requires-2-clause-within : goal.run_gathers-requires-2-clause-within
-run_gathers-requires-2-clause-within c =
+pub run_pairs-requires : goal.run_pairs-requires
+run_pairs-requires c =
     let m = c.self.inside in
-    let long = cells_long c.args.self.now.cells m.gathers.plain.items m.gathers.mixed.items m.length
-    (sym (ap (λ (m : Moving). m.cells) c.self.view_is)) in
+    let long = cells_long c.args.self.now.cells m.gathers m.length (sym (ap (λ (m : Moving). m.cells) c.self.view_is)) in
     let reach = ap (λ (m : Moving). m.reach) c.self.view_is in
     let reaches = c.requires.reach in
     let fits = c.requires.room in
     let same = c.run_in_fours.auto.out in
     let same' = c.run_gathers.auto.out in
-    all_fit m.length m.reach c.args.at c.args.t (length c.args.from.now) (length c.run_gathers.new.out) c.as_slice-3.result.now
-    m.gathers.mixed.items c.as_slice-3.ensures.value c.self.invariant.0.second (omega (arith, reach, reaches))
+    pairs_fit m.length m.reach c.args.at c.args.t (length c.args.from.now) (length c.run_gathers.new.out) c.as_slice-3.result.now
+    m.gathers.pairs.items c.as_slice-3.ensures.value c.self.invariant.0.second (omega (arith, reach, reaches))
     (omega (arith, long, fits, same, same'))
+
+pub run_gathers-requires-2-clause-within : goal.run_gathers-requires-2-clause-within
+run_gathers-requires-2-clause-within c =
+    let m = c.self.inside in
+    let long = cells_long c.args.self.now.cells m.gathers m.length (sym (ap (λ (m : Moving). m.cells) c.self.view_is)) in
+    let reach = ap (λ (m : Moving). m.reach) c.self.view_is in
+    let reaches = c.requires.reach in
+    let fits = c.requires.room in
+    let same = c.run_in_fours.auto.out in
+    let same' = c.run_gathers.auto.out in
+    let same'' = c.run_pairs.auto.out in
+    all_fit m.length m.reach c.args.at c.args.t (length c.args.from.now) (length c.run_pairs.new.out) c.as_slice-4.result.now
+    m.gathers.mixed.items c.as_slice-4.ensures.value c.self.invariant.0.third (omega (arith, reach, reaches))
+    (omega (arith, long, fits, same, same', same''))
 
 pub returns-clause-made : goal.returns-clause-made
 returns-clause-made c =
@@ -63,18 +77,20 @@ returns-clause-made c =
     let at = c.args.at in
     let t = c.args.t in
     let is = sym (ap (λ (m : Moving). m.cells) c.self.view_is) in
-    let long = cells_long c.args.self.now.cells m.gathers.plain.items m.gathers.mixed.items m.length is in
+    let long = cells_long c.args.self.now.cells m.gathers m.length is in
     let fits = c.requires.room in
     let fours = c.run_in_fours.ensures
     ∙ ap (λ (fs : List Four). gathered_at from at t (in_fours fs) c.args.out.now) c.as_slice.ensures.value in
     let rest = c.run_gathers.ensures
     ∙ ap (λ (gs : List Gather). gathered_at from at t gs c.run_in_fours.new.out) c.as_slice-2.ensures.value in
-    all_gathers from at t m.length m.reach m.gathers.plain.items m.gathers.mixed.items c.args.self.now.cells
-    c.args.out.now c.run_gathers.new.out c.run_gathers-2.new.out is c.self.invariant.0.first c.self.invariant.0.second
-    (omega (arith, long, fits))
-    (both_parts from at t m.gathers.plain.items m.rest.items m.fours.items c.args.out.now c.run_in_fours.new.out c.run_gathers.new.out
-    c.self.invariant.1 fours rest) (c.run_gathers-2.ensures
-    ∙ ap (λ (gs : List Gather). gathered_at from at t gs c.run_gathers.new.out) c.as_slice-3.ensures.value)
+    let plain = both_parts from at t m.gathers.plain.items m.rest.items m.fours.items c.args.out.now c.run_in_fours.new.out
+    c.run_gathers.new.out c.self.invariant.1 fours rest in
+    let pairs = c.run_pairs.ensures
+    ∙ ap (λ (ps : List Pair). gathered_at from at t (in_pairs ps) c.run_gathers.new.out) c.as_slice-3.ensures.value in
+    let mixed = c.run_gathers-2.ensures
+    ∙ ap (λ (gs : List Gather). gathered_at from at t gs c.run_pairs.new.out) c.as_slice-4.ensures.value in
+    all_gathers from at t m.length m.reach m.gathers c.args.self.now.cells c.args.out.now c.run_gathers.new.out c.run_pairs.new.out
+    c.run_gathers-2.new.out is c.self.invariant.0 (omega (arith, long, fits)) plain pairs mixed
 
 pub returns-clause-bytes : goal.returns-clause-bytes
 returns-clause-bytes c = bytes_are c.args.from.now (λ k. omega (arith, c.type_inv.from k))

@@ -1,9 +1,10 @@
-use Rattle.std.proofs.Common.{◌∙◌, ap, ℕ, List, IfSome, subst, rules}
+use Rattle.std.proofs.Common.{◌∙◌, ap, ℕ, List, IfSome, subst}
 use Rattle.evp_base.specs.declared.order.Order.{Order}
 use Rattle.evp_plan.specs.declared.step.Step.{Step}
-use Rattle.evp_plan.specs.Cells.{IsWholeOf}
+use Rattle.evp_plan.specs.Cells.{AreMovesOf, IsWholeOf}
 use Rattle.evp_plan.specs.Planned.{Planned}
 use Rattle.evp_plan.specs.Program.{last_steps}
+use Rattle.evp_plan.specs.Quiet.{tests_in}
 use Rattle.evp_plan.proofs.Tables.{root_length}
 use Rattle.evp_plan.proofs.plan.Plan.new.Goals as goal
 
@@ -20,16 +21,17 @@ returns c =
 pub invariant_of-result : goal.invariant_of-result
 invariant_of-result c =
     let last = c.last_list-last.ensures ∙ ap last_steps c.as_slice.ensures.value in
-    let Whole : List Step → Type 0 = λ steps. IfSome c.in_ok-whole.whole (IsWholeOf c.args.sender c.order-order.result steps) in (
+    let Whole : List Step → Type 0 = λ steps. IfSome c.in_ok-whole.whole (IsWholeOf c.args.sender c.order-order.result steps) in
+    let Moving : List (List Step) → Type 0 = λ table. AreMovesOf c.args.sender c.order-order.result table c.in_ok-moves.moves.items in (
       c.requires.ordered,
       (
         c.requires.some,
         (
-          search rules,
+          subst Moving c.as_slice-2.ensures.value c.in_ok-moves.ensures,
           (
             subst Whole last c.in_ok-whole.ensures,
             (
-              search rules,
+              c.in_ok-tests.ensures ∙ ap tests_in c.as_slice-3.ensures.value,
               c.in_ok-quick.ensures ∙ c.last_list.ensures ∙ ap last_steps c.as_slice-4.ensures.value,
             ),
           ),

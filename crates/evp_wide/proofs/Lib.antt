@@ -9,3 +9,6 @@ pub mod Turned
 pub mod Reordered
 pub mod Residues
 mod Naturals
+mod ZeroBits
+mod Gaps
+mod SignedNumbers

@@ -39,7 +39,7 @@ chosen n k (x ∷ first) (y ∷ second) same =
           ∙ sym (ap (λ (m : ℕ). take m (x ∷ first) ++ drop m (y ∷ second)) none)
     ]
 
-take_less : (n m : ℕ) (xs : List ℕ) → n ≤ m → m ≤ length xs → take n (take m xs) ≡ take n xs
+pub take_less : (n m : ℕ) (xs : List ℕ) → n ≤ m → m ≤ length xs → take n (take m xs) ≡ take n xs
 take_less n m xs less within =
     sym (take-append-le n (take m xs) (drop m xs) (omega (arith, length-take m xs))) ∙ ap (take n) (take-append-drop m xs)
 

@@ -22,13 +22,15 @@ pub use counts::get_count;
 pub use fills::are_fills;
 pub use fronts::put_front;
 pub use lanes::{Blend, Mask, gather, gather_blend, gather_or, gather_signs};
-pub use numbers::rewrite;
+pub use numbers::{put_signed, rewrite};
 pub use orders::reorder;
 pub use pairs::{gather_two, gather_with_signs};
 pub use swap::{swap2, swap4, swap8};
 pub use widen::{widen_signed, widen_unsigned};
 pub use words::{get_word, half_of, put_word, rewrite_number};
-pub use zeros::zero_at;
+pub use zeros::{near_zero, put_text, zero_at};
 
 #[cfg(test)]
 mod tests;
+#[cfg(test)]
+mod tests_puts;

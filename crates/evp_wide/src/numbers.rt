@@ -1,10 +1,12 @@
 //! Arrays of numbers written in another order and size.
 ghost use Rattle.std.specs.Prelude.{◌≡◌, ◌*◌, ◌/◌, ◌%◌, IsTrue, length};
 ghost use Rattle.evp_base.specs.Numbers.{is_width, is_size_of};
+ghost use Rattle.std.specs.Prelude.{◌+◌, ◌≤◌};
 ghost use Rattle.evp_wide.specs.Elements.{rewritten};
+ghost use Rattle.evp_wide.specs.Zeros.{with_signed};
 
 use crate::orders::reorder;
-use crate::words::rewrite_number;
+use crate::words::{get_signed, put_low, rewrite_number};
 use evp_base::{Kind, Order};
 
 /// Writes each number of `from`, of that kind and of `from_size` bytes, as a number of `out_size`
@@ -142,5 +144,127 @@ fn rewrite_each(
             from_order,
             kind,
         );
+    }
+}
+
+/// Writes n signed numbers of `width` bytes, the first at `at`, as numbers of `size` bytes, the
+/// first at `to`: the lowest digits where there are more. Sizes are 1, 2, 4 or 8. Takes no memory.
+#[inline(always)]
+pub fn put_signed(
+    out: &mut [u8],
+    to: usize,
+    size: usize,
+    to_order: Order,
+    from: &[u8],
+    at: usize,
+    width: usize,
+    from_order: Order,
+    n: usize,
+)
+    requires size { IsTrue (is_width size) }
+    requires width { IsTrue (is_width width) }
+    requires from { at + n * width ≤ length from.now }
+    requires out { to + n * size ≤ length out.old }
+    ensures { out.new ≡ with_signed to size to_order from.now at width from_order n out.old }
+{
+    let fours = n / 4;
+    put_fours(out, to, size, to_order, from, at, width, from_order, fours);
+    put_few(
+        out,
+        to + fours * 4 * size,
+        size,
+        to_order,
+        from,
+        at + fours * 4 * width,
+        width,
+        from_order,
+        n % 4,
+    );
+}
+
+// The same of four times so many numbers.
+#[inline(always)]
+fn put_fours(
+    out: &mut [u8],
+    to: usize,
+    size: usize,
+    to_order: Order,
+    from: &[u8],
+    at: usize,
+    width: usize,
+    from_order: Order,
+    fours: usize,
+)
+    requires size { IsTrue (is_width size) }
+    requires width { IsTrue (is_width width) }
+    requires from { at + fours * 4 * width ≤ length from.now }
+    requires out { to + fours * 4 * size ≤ length out.old }
+    ensures { out.new
+        ≡ with_signed to size to_order from.now at width from_order (fours * 4) out.old }
+{
+    for four in 0..fours {
+        put_four(
+            out,
+            to + four * 4 * size,
+            size,
+            to_order,
+            from,
+            at + four * 4 * width,
+            width,
+            from_order,
+        );
+    }
+}
+
+// The same of four numbers, which are read before any is written.
+#[inline(always)]
+fn put_four(
+    out: &mut [u8],
+    to: usize,
+    size: usize,
+    to_order: Order,
+    from: &[u8],
+    at: usize,
+    width: usize,
+    from_order: Order,
+)
+    requires size { IsTrue (is_width size) }
+    requires width { IsTrue (is_width width) }
+    requires from { at + 4 * width ≤ length from.now }
+    requires out { to + 4 * size ≤ length out.old }
+    ensures { out.new ≡ with_signed to size to_order from.now at width from_order 4 out.old }
+{
+    let one = get_signed(from, at, width, from_order);
+    let two = get_signed(from, at + width, width, from_order);
+    let three = get_signed(from, at + 2 * width, width, from_order);
+    let four = get_signed(from, at + 3 * width, width, from_order);
+    put_low(out, to, size, to_order, one);
+    put_low(out, to + size, size, to_order, two);
+    put_low(out, to + 2 * size, size, to_order, three);
+    put_low(out, to + 3 * size, size, to_order, four);
+}
+
+// The same one by one.
+#[inline(always)]
+fn put_few(
+    out: &mut [u8],
+    to: usize,
+    size: usize,
+    to_order: Order,
+    from: &[u8],
+    at: usize,
+    width: usize,
+    from_order: Order,
+    n: usize,
+)
+    requires size { IsTrue (is_width size) }
+    requires width { IsTrue (is_width width) }
+    requires from { at + n * width ≤ length from.now }
+    requires out { to + n * size ≤ length out.old }
+    ensures { out.new ≡ with_signed to size to_order from.now at width from_order n out.old }
+{
+    for k in 0..n {
+        let word = get_signed(from, at + k * width, width, from_order);
+        put_low(out, to + k * size, size, to_order, word);
     }
 }

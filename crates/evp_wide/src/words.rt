@@ -1,5 +1,7 @@
 //! Numbers of 1, 2, 4 and 8 bytes as words.
 ghost use Rattle.std.specs.Prelude.{◌≡◌, ◌<◌, ◌+◌, ◌-◌, ◌*◌, ◌%◌, ◌^◌, IsTrue, length, pos};
+ghost use Rattle.std.specs.Prelude.{◌≤◌, ◌++◌, take, drop};
+ghost use Rattle.evp_base.specs.declared.kind.Kind.TheVariants.{Int};
 ghost use Rattle.evp_base.specs.Numbers.{number, magnitude, digits, residue, twos_complement};
 ghost use Rattle.evp_base.specs.Numbers.{is_width, is_word_length};
 
@@ -80,20 +82,6 @@ pub fn half_of(size: usize) -> u64
     }
 }
 
-// The bits of a word above so many bytes.
-#[inline(always)]
-fn bits_above(size: usize) -> u64
-    requires { IsTrue (is_width size) }
-    ensures { result + 2 ^ (8 * size) ≡ 2 ^ 64 }
-{
-    match size {
-        1 => 0xffff_ffff_ffff_ff00,
-        2 => 0xffff_ffff_ffff_0000,
-        4 => 0xffff_ffff_0000_0000,
-        _ => 0,
-    }
-}
-
 // A number of so many bytes in two's complement, modulo 2^64.
 #[inline(always)]
 fn with_sign(word: u64, size: usize) -> u64
@@ -101,11 +89,8 @@ fn with_sign(word: u64, size: usize) -> u64
     requires below { word < 2 ^ (8 * size) }
     ensures { result ≡ residue (twos_complement size word) (2 ^ 64) }
 {
-    if word < half_of(size) {
-        word
-    } else {
-        word + bits_above(size)
-    }
+    let half = half_of(size);
+    (word ^ half).wrapping_sub(half)
 }
 
 // The number that some bytes are for a kind, modulo 2^64.
@@ -120,6 +105,28 @@ fn get_number_word(bytes: &[u8], order: Order, kind: Kind) -> u64
         Kind::Unsigned | Kind::Char => word,
         Kind::Boolean => u64::from(word != 0),
     }
+}
+
+/// The signed number of so many bytes at a place, modulo 2^64. The size is 1, 2, 4 or 8. Takes no
+/// memory.
+#[inline(always)]
+pub fn get_signed(from: &[u8], at: usize, size: usize, order: Order) -> u64
+    requires size { IsTrue (is_width size) }
+    requires inside { at + size ≤ length from.now }
+    ensures { result ≡ residue (number order Int (take size (drop at from.now))) (2 ^ 64) }
+{
+    with_sign(get_word(&from[at..at + size], order), size)
+}
+
+/// Writes the lowest so many bytes of a word to a place: 1, 2, 4 or 8. Takes no memory.
+#[inline(always)]
+pub fn put_low(out: &mut [u8], to: usize, size: usize, order: Order, word: u64)
+    requires size { IsTrue (is_width size) }
+    requires room { to + size ≤ length out.old }
+    ensures { out.new
+        ≡ take to out.old ++ (digits order size (pos word) ++ drop (to + size) out.old) }
+{
+    put_word(&mut out[to..to + size], order, word);
 }
 
 /// Writes the number that some bytes are for a kind, in as many bytes as there is room for. There

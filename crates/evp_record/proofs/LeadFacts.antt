@@ -1,5 +1,5 @@
 -- Where the leads of a well laid type stand, and what is inside them.
-use Rattle.std.proofs.Common.{◌≡◌, ℕ, zero, suc, ◌+◌, ◌*◌, ◌^◌, ◌<◌, ◌≤◌, Bool, true, false, nat_lt, List, [], ◌∷◌, length, take, get_or}
+use Rattle.std.proofs.Common.{◌≡◌, ◌≢◌, ℕ, zero, suc, ◌+◌, ◌*◌, ◌^◌, ◌<◌, ◌≤◌, Bool, true, false, nat_lt, List, [], ◌∷◌, length, take, get_or}
 use Rattle.std.proofs.Common.{Option, Some, None, refl, sym, ap, ◌∙◌, subst, arith, IsTrue}
 use Rattle.std.specs.Prelude.{slice_get, option_and_then, if◌then◌else◌}
 use Rattle.std.proofs.lemmas.Bool.Decides.{nat_tests}
@@ -99,6 +99,16 @@ count_sized pointer types (Number Enumeration) size counts sized = absurd counts
 count_sized pointer types Text size counts sized = absurd counts
 count_sized pointer types (Nested m) size counts sized = absurd counts
 
+-- and its kind
+count_kind : (base : Base) → CountsElements base → kind_of base ≢ Boolean
+count_kind (Number Int) counts = λ is. cc
+count_kind (Number Unsigned) counts = λ is. cc
+count_kind (Number Char) counts = absurd counts
+count_kind (Number Boolean) counts = absurd counts
+count_kind (Number Enumeration) counts = absurd counts
+count_kind Text counts = absurd counts
+count_kind (Nested m) counts = absurd counts
+
 counts_inside : (layout : Layout) (n : ℕ) (type : RecordType) (shape : Shape) → IsWellLaid layout → slice_get layout.types n ≡ Some type
     → HasShape type.fields shape
     → CountsInside (length_of (tree_of layout n)) (run_in type.fields shape)
@@ -112,6 +122,7 @@ counts_inside layout n type (Counted c) laid found has =
     subst Counts (sym has.1) (
       count_sized layout.pointer (take n layout.types) has.0.base has.0.size has.3 at.laid.size_allowed,
       omega (arith, fits, takes),
+      count_kind has.0.base has.3,
     )
 
 -- each lead of type n
@@ -145,6 +156,7 @@ pub record IsCountedLead (held : Record) (at : ℕ) (lead : Lead) (count : Count
   pub allowed : IsTrue (is_size_of count.kind count.size)
   pub count_inside : at + count.offset + count.size ≤ length held.bytes
   pub pointer_inside : at + lead.offset + held.layout.pointer ≤ length held.bytes
+  pub no_boolean : count.kind ≢ Boolean
 
 pub counted_lead : (held : Record) (at : ℕ) (lead : Lead) (count : Count) → IsLeadAt held at lead → lead.run ≡ run.Counted count
     → IsCountedLead held at lead count
@@ -154,7 +166,12 @@ counted_lead held at lead count is counted =
     ≡ held.layout.pointer = ap (λ (r : Run). run_extent held.layout.pointer r lead.size) counted in
     let fits = is.is_lead.fits in
     let within = is.inside in
-    record { allowed = counts.0; count_inside = omega (arith, counts.1, within); pointer_inside = omega (arith, fits, takes, within) }
+    record {
+      allowed = counts.0;
+      count_inside = omega (arith, counts.1, within);
+      pointer_inside = omega (arith, fits, takes, within);
+      no_boolean = counts.2;
+    }
 
 pub extent_of_run : (held : Record) (at : ℕ) (lead : Lead) (r : Run) → IsLeadAt held at lead → lead.run ≡ r
     → at + lead.offset + run_extent held.layout.pointer r lead.size ≤ length held.bytes

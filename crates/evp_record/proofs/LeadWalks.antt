@@ -354,14 +354,6 @@ leads_read inner held n at mark items same laid there are = subst Here same inne
     inner_here : Here inner
     inner_here there = ap (λ (leads : List Lead). leads_mark inner leads at mark) are ∙ record_mark inner n at mark laid there
 
--- a record of a type without leads is done by its length
-pub unled_record : (layout : Layout) (bytes : List ℕ) (n mark : ℕ) (items : List Lead) → IsWellLaid layout → n < length layout.types
-    → items ≡ leads_of layout n → 0 ≡ length items
-    → Some mark ≡ mark_of (record_walk (record_of layout bytes) n 0 mark)
-unled_record layout bytes n mark [] laid there are none = leads_read (record_of layout bytes) (record_of layout bytes) n 0 mark [] refl laid
-    there are
-unled_record layout bytes n mark (lead ∷ items) laid there are none = absurd (omega (arith, none))
-
 -- ---- what is plain
 
 no_lead : (leads : List Lead) → not (is_led leads) ≡ true → leads ≡ []

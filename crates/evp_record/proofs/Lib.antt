@@ -1,4 +1,5 @@
 pub mod Entries
+pub mod Glances
 pub mod Laid
 pub mod LeadFacts
 pub mod LeadWalks

@@ -18,7 +18,7 @@ none_zero (byte ∷ bytes) nowhere =
     by_test false not_zero later = ap (option_map (λ (rest : List ℕ). byte ∷ rest)) later
 
 -- byte k is the first zero
-first_zero : (bytes : List ℕ) (k : ℕ) → k < length bytes → Nowhere (Passes (is_byte 0) bytes) 0 k → Passes (is_byte 0) bytes k
+pub first_zero : (bytes : List ℕ) (k : ℕ) → k < length bytes → Nowhere (Passes (is_byte 0) bytes) 0 k → Passes (is_byte 0) bytes k
     → option_map length (until_zero bytes) ≡ Some k
 first_zero [] k below nowhere here = absurd (omega (arith, below))
 first_zero (byte ∷ bytes) zero below nowhere here =

@@ -1,8 +1,9 @@
 -- The marks of a walk that goes by the leads of a type: the mark behind each, or none where there
 -- is a fault.
-use Rattle.std.specs.Prelude.{◌≡◌, ℕ, zero, suc, ◌+◌, ◌*◌, ◌^◌, ◌<◌, ◌≤◌, ℤ, pos, negsuc, ◌||◌}
+use Rattle.std.specs.Prelude.{◌≡◌, ◌≢◌, ℕ, zero, suc, ◌+◌, ◌*◌, ◌^◌, ◌<◌, ◌≤◌, ℤ, pos, negsuc}
 use Rattle.std.specs.Prelude.{nat_eq, nat_lt, List, [], ◌∷◌, length, Option, Some, None}
-use Rattle.std.specs.Prelude.{option_and_then, if◌then◌else◌, IsTrue, ⊤}
+use Rattle.std.specs.Prelude.{◌||◌, option_and_then, if◌then◌else◌, IsTrue, ⊤}
+use Rattle.evp_base.specs.declared.kind.Kind.TheVariants.{Boolean}
 use Rattle.evp_base.specs.Numbers.{number, is_size_of}
 use Rattle.evp_format.specs.declared.lead.Count.{Count}
 use Rattle.evp_format.specs.declared.lead.Inside.{Inside}
@@ -91,12 +92,12 @@ run_extent pointer run.One size = size
 run_extent pointer (run.Fixed n) size = n * size
 run_extent pointer (run.Counted count) size = pointer
 
--- a count that is a number inside a record of this length
+-- a count that is a number inside a record of this length, and no boolean
 abbrev pub CountsInside : ℕ → Run → Type 0
 CountsInside length run.One = ⊤
 CountsInside length (run.Fixed n) = ⊤
 CountsInside length (run.Counted count) = IsTrue (is_size_of count.kind count.size)
-    × (count.offset + count.size ≤ length)
+    × (count.offset + count.size ≤ length) × (count.kind ≢ Boolean)
 
 -- a lead of a record of this length
 pub record IsLead (layout : Layout) (length : ℕ) (lead : Lead) : Type 0 where

@@ -1,6 +1,7 @@
 //! Records whole: the check of a stranger's bytes, readers that never leave them, and packing.
 #![tactic(auto)]
 
+mod easy;
 mod fields;
 mod laws;
 mod marker;

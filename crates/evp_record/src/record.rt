@@ -6,6 +6,7 @@ ghost use Rattle.evp_format.specs.Viewing.{view};
 ghost use Rattle.evp_record.specs.Record.{IsRecord, record_of};
 
 use crate::Spot;
+use crate::easy::is_easy;
 use crate::marker::Marker;
 use crate::walk::Walk;
 use evp_format::{Broken, Format, Place};
@@ -34,6 +35,7 @@ impl<'a> Model for Checked<'a> {
 /// starts at or after the end of the block before it. At a counted array a negative count comes
 /// first, then a null pointer at a count above 0, then the block's place. Gaps, padding and bytes
 /// behind the last block are ignored. Takes no memory.
+#[inline(always)]
 pub fn check<'a>(format: &'a Format, bytes: &'a [u8]) -> Result<Checked<'a>, Broken>
     requires { length bytes.now < 2 ^ 32 }
     ensures held { IfOk result (λ item. item ≡ record_of format.now bytes.now) }
@@ -44,10 +46,28 @@ pub fn check<'a>(format: &'a Format, bytes: &'a [u8]) -> Result<Checked<'a>, Bro
     if bytes.len() < length {
         return Err(Broken::ShortRecord);
     }
-    let last = (format.types().len() - 1) as u16;
-    if format.leads(last).is_empty() {
+    let leads = format.leads((format.types().len() - 1) as u16);
+    if leads.is_empty() {
         return Ok(Checked { format, bytes });
     }
+    if is_easy(format, leads, bytes, length) {
+        return Ok(Checked { format, bytes });
+    }
+    walked(format, bytes)
+}
+
+// The same of bytes that are long enough, by a walk. It stands apart, so that the quick look is all
+// that stands at a call.
+#[inline(never)]
+fn walked<'a>(format: &'a Format, bytes: &'a [u8]) -> Result<Checked<'a>, Broken>
+    requires short { length bytes.now < 2 ^ 32 }
+    requires whole { length_of (root_of format.now) ≤ length bytes.now }
+    ensures held { IfOk result (λ item. item ≡ record_of format.now bytes.now) }
+    ensures viewed { IfOk result (λ _. IsOk (view format.now bytes.now)) }
+    ensures fault { IfErr result (λ fault. view format.now bytes.now ≡ Err fault) }
+{
+    let length = format.root().length as usize;
+    let last = (format.types().len() - 1) as u16;
     let end = Marker::new(format, bytes).record(last, 0, length);
     if end.is_none() {
         return Err(first_fault(format, bytes));

@@ -1,6 +1,7 @@
+mod glances;
 mod readers;
 
-ghost use Rattle.std.specs.Prelude.{◌≡◌};
+ghost use Rattle.std.specs.Prelude.{◌≡◌, ◌<◌, length};
 ghost use Rattle.evp_record.specs.Samples.{list_description, list_bytes};
 
 use super::*;
@@ -205,21 +206,39 @@ fn write_members(alloc: Global, out: &mut String, members: &Members) -> Result<(
     out.push('}')
 }
 
+// The first fault of the bytes, with its path.
+fn fault_shown(alloc: Global, description: &[u8], bytes: &[u8]) -> Option<String>
+    requires { length bytes.now < 1000 }
+{
+    let format = read_description(alloc, description).ok()?;
+    let fault = check(&format, bytes).err()?;
+    let path = fault.path(alloc, &format).ok()?;
+    let shown = BrokenText {
+        fault: &fault,
+        path: &path,
+    };
+    format!(in alloc; "{shown}").ok()
+}
+
+// The value that the bytes have.
+fn value_shown(alloc: Global, description: &[u8], bytes: &[u8]) -> Option<String>
+    requires { length bytes.now < 1000 }
+{
+    let format = read_description(alloc, description).ok()?;
+    let item = check(&format, bytes).ok()?;
+    let value = view(alloc, item).ok()?;
+    let mut text = String::new(alloc);
+    write_value(alloc, &mut text, &value).ok()?;
+    Some(text)
+}
+
 #[test]
 fn first_faults_with_their_paths(rt: HostRuntime) -> Result<(), Fail> {
     let alloc = rt.alloc();
     for (description, bytes, expected) in CHECKS {
-        let format = read_description(alloc, description)
-            .ok()
-            .ok_or("description")?;
         assert!(rt; bytes.len() < 1000);
-        let fault = check(&format, bytes).err().ok_or("a fault")?;
-        let path = fault.path(alloc, &format)?;
-        let shown = BrokenText {
-            fault: &fault,
-            path: &path,
-        };
-        assert_eq!(rt; format!(in alloc; "{shown}")?.as_str(), expected);
+        let text = fault_shown(alloc, description, bytes).ok_or("a fault")?;
+        assert_eq!(rt; text.as_str(), expected);
     }
     Ok(())
 }
@@ -228,14 +247,8 @@ fn first_faults_with_their_paths(rt: HostRuntime) -> Result<(), Fail> {
 fn values_of_records(rt: HostRuntime) -> Result<(), Fail> {
     let alloc = rt.alloc();
     for (description, bytes, expected) in VIEWS {
-        let format = read_description(alloc, description)
-            .ok()
-            .ok_or("description")?;
         assert!(rt; bytes.len() < 1000);
-        let item = check(&format, bytes).ok().ok_or("a record")?;
-        let value = view(alloc, item)?;
-        let mut text = String::new(alloc);
-        write_value(alloc, &mut text, &value)?;
+        let text = value_shown(alloc, description, bytes).ok_or("a value")?;
         assert_eq!(rt; text.as_str(), expected);
     }
     Ok(())

@@ -1,72 +1,25 @@
-use Rattle.std.proofs.Common.{◌≡◌, ◌+◌, ◌-◌, ◌≤◌, List, [], length, Some, refl, ap, sym, ◌∙◌, subst, arith}
+use Rattle.std.proofs.Common.{◌≡◌, ◌-◌, length, arith}
 use Rattle.std.proofs.lemmas.Bool.Decides.{nat_tests}
 use Rattle.std.specs.Prelude.{IsOk}
-use Rattle.evp_format.specs.declared.record_type.RecordType.{RecordType}
-use Rattle.evp_format.specs.Tree.{root_of, length_of, tree_of}
-use Rattle.evp_format.specs.Viewing.{view, view_tree, image_of}
-use Rattle.evp_record.specs.Record.{Record, record_of}
-use Rattle.evp_record.proofs.LeadWalks.{unled_record}
+use Rattle.evp_format.specs.Viewing.{view}
 use Rattle.evp_format.proofs.LaidBases.{root_length}
-use Rattle.evp_record.proofs.Viewed.{view-short, view-walked, root_mark, viewed-marked, viewed-unmarked}
+use Rattle.evp_record.proofs.Glances.{leads_there, led_viewed, unled_viewed}
+use Rattle.evp_record.proofs.Viewed.{view-short}
 use Rattle.evp_record.proofs.record.check.Goals as goal
-use Rattle.evp_record.proofs.record.check.Goals.{Else-is_none, Then-is_empty}
+use Rattle.evp_record.proofs.record.check.Goals.{Then-is_easy, Then-is_empty}
 
 pub returns-then-bytes-length-clause-fault : goal.returns-then-bytes-length-clause-fault
 returns-then-bytes-length-clause-fault c =
     let long = root_length c.args.format.now c.root.result.now c.root.ensures.laid c.root.ensures.value in
     view-short c.args.format.now c.args.bytes.now (omega (arith, long))
 
-pub record-end-requires-clause-inside : goal.record-end-requires-clause-inside
-record-end-requires-clause-inside c =
-    let layout = c.args.format.now in
-    let long = root_length layout c.root.result.now c.root.ensures.laid c.root.ensures.value in
-    let Inside : Record → Type 0 = λ held. 0 + length_of (tree_of held.layout (length c.types.result.now - 1)) ≤ length held.bytes in
-    let last = ap (λ (types : List RecordType). length_of (tree_of layout (length types - 1))) c.types.ensures.value in
-    subst Inside (sym c.new.ensures) (omega (arith, long, last))
-
-pub first_fault-requires-clause-whole : goal.first_fault-requires-clause-whole
-first_fault-requires-clause-whole c =
-    let long = root_length c.args.format.now c.root.result.now c.root.ensures.laid c.root.ensures.value in
-    omega (arith, long)
-
-pub first_fault-requires-clause-broken : goal.first_fault-requires-clause-broken
-first_fault-requires-clause-broken c =
-    let layout = c.args.format.now in
-    let bytes = c.args.bytes.now in
-    let long = root_length layout c.root.result.now c.root.ensures.laid c.root.ensures.value in
-    let mark = root_mark layout bytes c.new.result c.types.result.now c.root.result.now c.root.ensures.laid c.new.ensures
-    c.types.ensures.value c.root.ensures.value in
-    rw (view-walked layout bytes (omega (arith, long)))
-    (viewed-unmarked (view_tree (image_of layout bytes) (root_of layout) 0 [] (length_of (root_of layout))) c.record-end.result
-    (c.record-end.ensures.value ∙ mark) c.if-is_none.ensures)
-
-has_view : (c : Else-is_none) → IsOk (view c.args.format.now c.args.bytes.now)
-has_view c =
-    let layout = c.args.format.now in
-    let bytes = c.args.bytes.now in
-    let long = root_length layout c.root.result.now c.root.ensures.laid c.root.ensures.value in
-    let mark = root_mark layout bytes c.new.result c.types.result.now c.root.result.now c.root.ensures.laid c.new.ensures
-    c.types.ensures.value c.root.ensures.value in
-    rw (view-walked layout bytes (omega (arith, long)))
-    (viewed-marked (view_tree (image_of layout bytes) (root_of layout) 0 [] (length_of (root_of layout))) c.record-end.result
-    (c.record-end.ensures.value ∙ mark) c.if-is_none.ensures)
+-- ---- no leads
 
 is_viewed : (c : Then-is_empty) → IsOk (view c.args.format.now c.args.bytes.now)
 is_viewed c =
-    let layout = c.args.format.now in
-    let bytes = c.args.bytes.now in
-    let laid = c.root.ensures.laid in
-    let held = record_of layout bytes in
-    let long = root_length layout c.root.result.now laid c.root.ensures.value in
-    let last = ap (λ (types : List RecordType). length types) c.types.ensures.value in
-    let some = laid.types_allowed.0 in
-    let none : 0 ≡ length c.leads.result.now = grind (arith, nat_tests, c.is_empty.ensures, c.if-is_empty.true) in
-    let walked = unled_record layout bytes (length c.types.result.now - 1) c.root.result.now.length c.leads.result.now laid
-    (omega (arith, last, some)) c.leads.ensures none in
-    let mark = root_mark layout bytes held c.types.result.now c.root.result.now laid refl c.types.ensures.value c.root.ensures.value in
-    rw (view-walked layout bytes (omega (arith, long)))
-    (viewed-marked (view_tree (image_of layout bytes) (root_of layout) 0 [] (length_of (root_of layout))) (Some c.root.result.now.length)
-    (walked ∙ mark) refl)
+    let none : 0 ≡ length c.leads-leads.result.now = grind (arith, nat_tests, c.is_empty.ensures, c.if-is_empty.true) in
+    unled_viewed c.args.format.now c.args.bytes.now c.types.result.now c.root.result.now c.leads-leads.result.now c.root.ensures.laid
+    c.types.ensures.value c.root.ensures.value c.leads-leads.ensures (omega arith) none
 
 pub invariant_of-result : goal.invariant_of-result
 invariant_of-result c = record { short = c.requires; viewed = is_viewed c }
@@ -74,8 +27,31 @@ invariant_of-result c = record { short = c.requires; viewed = is_viewed c }
 pub returns-then-is_empty-clause-viewed : goal.returns-then-is_empty-clause-viewed
 returns-then-is_empty-clause-viewed c = is_viewed c
 
-pub invariant_of-result-2 : goal.invariant_of-result-2
-invariant_of-result-2 c = record { short = c.requires; viewed = has_view c }
+-- ---- leads that are looked at
 
-pub returns-clause-viewed : goal.returns-clause-viewed
-returns-clause-viewed c = has_view c
+pub is_easy-requires-clause-leads : goal.is_easy-requires-clause-leads
+is_easy-requires-clause-leads c =
+    leads_there c.args.format.now c.args.bytes.now c.types.result.now c.root.result.now c.leads-leads.result.now c.root.ensures.laid c.requires
+    c.types.ensures.value c.root.ensures.value c.leads-leads.ensures (omega arith)
+
+pub is_easy-requires-clause-some : goal.is_easy-requires-clause-some
+is_easy-requires-clause-some c =
+    let layout = c.args.format.now in
+    let type = c.root.ensures.laid.each_type (length layout.types - 1) c.root.result.now c.root.ensures.value in
+    omega (arith, type.length_allowed.0)
+
+is_seen : (c : Then-is_easy) → IsOk (view c.args.format.now c.args.bytes.now)
+is_seen c =
+    led_viewed c.args.format.now c.args.bytes.now c.types.result.now c.root.result.now c.leads-leads.result.now c.root.ensures.laid
+    c.types.ensures.value c.root.ensures.value c.leads-leads.ensures (omega arith) (c.is_easy.ensures c.if-is_easy.true)
+
+pub invariant_of-result-then-is_easy : goal.invariant_of-result-then-is_easy
+invariant_of-result-then-is_easy c = record { short = c.requires; viewed = is_seen c }
+
+pub returns-then-is_easy-clause-viewed : goal.returns-then-is_easy-clause-viewed
+returns-then-is_easy-clause-viewed c = is_seen c
+
+pub walked-requires-clause-whole : goal.walked-requires-clause-whole
+walked-requires-clause-whole c =
+    let long = root_length c.args.format.now c.root.result.now c.root.ensures.laid c.root.ensures.value in
+    omega (arith, long)

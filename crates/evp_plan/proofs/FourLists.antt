@@ -8,7 +8,9 @@ use Rattle.evp_base.proofs.Digits.{AreBytes}
 use Rattle.evp_plan.specs.declared.gather.Four.{Four}
 use Rattle.evp_plan.specs.declared.gather.Gather.{Gather}
 use Rattle.evp_plan.specs.Cells.{gather_cells, gathered_at, lanes, painted_at, written, IsGatherWithin}
+use Rattle.evp_plan.specs.declared.gather.Pair.{Pair}
 use Rattle.evp_plan.specs.Fours.{in_fours, AreParted}
+use Rattle.evp_plan.specs.Pairs.{in_pairs}
 use Rattle.evp_plan.proofs.Gathered.{one_gather}
 
 -- ---- the lists that are made
@@ -128,3 +130,37 @@ fours_fit n reach at t long room gathers rest fours slice same parted within rea
     let at_is = four.at.1.1 in
     let to_is = four.to.1.1 in
     (omega (arith, here.1, reaches, at_is), omega (arith, here.0, fits, to_is)))
+
+-- ---- where there is nothing else
+
+pub no_gathers : (from : List ℕ) (at t : ℕ) (gathers : List Gather) (out : List ℕ) → length gathers ≡ 0
+    → out ≡ gathered_at from at t gathers out
+no_gathers from at t [] out none = refl
+no_gathers from at t (gather ∷ gathers) out none = absurd (omega (arith, none))
+
+pub no_pairs : (from : List ℕ) (at t : ℕ) (pairs : List Pair) (out : List ℕ) → length pairs ≡ 0
+    → out ≡ gathered_at from at t (in_pairs pairs) out
+no_pairs from at t [] out none = refl
+no_pairs from at t (pair ∷ pairs) out none = absurd (omega (arith, none))
+
+both_there : (P : Gather → Type 0) (one two : Gather) (gathers : List Gather) → gathers ≡ one ∷ two ∷ [] → All P gathers → P one × P two
+both_there P one two gathers is all =
+    let both = subst (λ (gs : List Gather). All P gs) is all in
+    (both 0 one (omega arith), both 1 two (omega arith))
+
+pub two_fit : (n reach at t long room : ℕ) (one two : Gather) (gathers : List Gather) → gathers ≡ one ∷ two ∷ []
+    → All (IsGatherWithin n reach) gathers → at + reach ≤ long → t + n ≤ room
+    → ((at + one.at + 16 ≤ long) × (t + one.to + 16 ≤ room)) × ((at + two.at + 16 ≤ long) × (t + two.to + 16 ≤ room))
+two_fit n reach at t long room one two gathers is within reaches fits =
+    let both = both_there (IsGatherWithin n reach) one two gathers is within in (
+      (omega (arith, both.0.1, reaches), omega (arith, both.0.0, fits)),
+      (omega (arith, both.1.1, reaches), omega (arith, both.1.0, fits)),
+    )
+
+pub two_items : (gathers : List Gather) (one two : Gather) → length gathers ≡ 2 → one ≡ get_or gathers 0 one → two ≡ get_or gathers 1 two
+    → gathers ≡ one ∷ two ∷ []
+two_items [] one two long is is' = absurd (omega (arith, long))
+two_items (a ∷ []) one two long is is' = absurd (omega (arith, long))
+two_items (a ∷ b ∷ []) one two long is is' =
+    ap (λ (g : Gather). g ∷ b ∷ []) (sym is) ∙ ap (λ (g : Gather). one ∷ g ∷ []) (sym is')
+two_items (a ∷ b ∷ c ∷ gathers) one two long is is' = absurd (omega (arith, long))

@@ -9,7 +9,7 @@ use Rattle.evp_plan.specs.declared.fill.Fill.{Fill}
 use Rattle.evp_plan.specs.declared.fill.Window.{Window}
 use Rattle.evp_plan.specs.declared.quick.Quick.{Quick}
 use Rattle.evp_plan.specs.Fills.{AreFilled, AreWordsInside, AreWordsThere, AreFillsOf}
-use Rattle.evp_plan.specs.Lanes.{HaveFills, AreInside, IsReachOf, AreLanesOf}
+use Rattle.evp_plan.specs.Lanes.{HaveFills, IsReachOf, AreLanesOf}
 
 -- a lane of two gathers
 pub lane_fills : (picks signs bytes : List ℕ) (k pick sign : ℕ) → k < length picks → k < length signs → get_or picks k 0 ≡ pick

@@ -40,3 +40,11 @@ mod FillExamples
 pub mod QuietLists
 pub mod QuietSteps
 mod FourLists
+pub mod PutAt
+pub mod NumbersPut
+pub mod LaidFronts
+pub mod PiecesApart
+pub mod LaidPieces
+mod LaidExamples
+mod LaidSteps
+mod MovesWithin

@@ -21,6 +21,7 @@ use Rattle.evp_plan.specs.declared.step.Step.{Step}
 use Rattle.evp_plan.specs.Cells.{painted_at, overlaid, origin_cells, op_cells, steps_over, end_of, source_end, reach_of, is_plain_kind}
 use Rattle.evp_plan.specs.Cells.{is_plain_op, Moving, AreMovesOver, IsMovesOf, IsWholeOf, AreMovesOf}
 use Rattle.evp_format.proofs.Pushed.{slice_get-push}
+use Rattle.evp_plan.specs.Laid.{AreCellsOf}
 use Rattle.evp_plan.specs.Moving.{moved, moved_op}
 use Rattle.evp_plan.specs.Sound.{IsSoundOp, IsSound}
 use Rattle.evp_plan.proofs.Gathered.{no_gather, painted-zeros}
@@ -82,11 +83,11 @@ plain_size image machine size at t after (Nest s) inside plain = cc
 plain_size image machine size at t after (Each count elements) inside plain = cc
 plain_size image machine size at t after (Many origin elements) inside plain = cc
 
-put_pieces-append : (first rest : List Piece) (bytes : List ℕ) → put_pieces (first ++ rest) bytes ≡ put_pieces rest (put_pieces first bytes)
+pub put_pieces-append : (first rest : List Piece) (bytes : List ℕ) → put_pieces (first ++ rest) bytes ≡ put_pieces rest (put_pieces first bytes)
 put_pieces-append [] rest bytes = refl
 put_pieces-append (piece ∷ first) rest bytes = put_pieces-append first rest (put_at piece.at piece.bytes bytes)
 
-both_true : (a b : Bool) → (a && b) ≡ true → (a ≡ true) × (b ≡ true)
+pub both_true : (a b : Bool) → (a && b) ≡ true → (a ≡ true) × (b ≡ true)
 both_true true b is = (refl, is)
 both_true false b is = cc
 
@@ -183,21 +184,31 @@ whole_all from_order order steps count (Ok None) over fits = tt
 whole_all from_order order steps count (Ok (Some moves)) over fits = whole_over from_order order steps moves count over fits
 whole_all from_order order steps count (Err fault) over fits = tt
 
--- what moves write that make a whole record, is what the steps put over zeros
+-- what cells write that make a whole record, is what the steps put over zeros
+pub cells_make : (programs : List Program) (image : Image) (machine : Machine) (steps : List Step) (cells : List Cell) (at after : ℕ)
+    (out : List ℕ) → AreCellsOf image.order machine.order steps cells → IsReady image (program_of programs steps) at
+    → AreBytes image.bytes → length cells ≡ length out
+    → painted_at image.bytes at 0 cells out
+    ≡ put_pieces (moved image machine (program_of programs steps) at 0 after).all (replicate (length out) 0)
+cells_make programs image machine steps cells at after out is ready are long =
+    let zeros = replicate (length cells) (Constant 0) in
+    let zeros_long : length zeros ≡ length cells = length-replicate {A = Cell} (length cells) (Constant 0) in
+    let fits = is.fits in
+    let made = steps_painted programs image machine steps at 0 after zeros out is.plain ready are (omega (arith, fits, zeros_long))
+    (omega (arith, zeros_long, long)) in
+    ap (λ (c : List Cell). painted_at image.bytes at 0 c out) is.over ∙ sym made.0
+    ∙ ap (put_pieces (moved image machine (program_of programs steps) at 0 after).all)
+    (painted-zeros image.bytes at (length cells) out long)
+
+-- the same of moves
 pub whole_make : (programs : List Program) (image : Image) (machine : Machine) (steps : List Step) (moves : Moving) (at after : ℕ)
     (out : List ℕ) → IsWholeOf image.order machine.order steps moves → IsReady image (program_of programs steps) at
     → AreBytes image.bytes → length moves.cells ≡ length out
     → painted_at image.bytes at 0 moves.cells out
     ≡ put_pieces (moved image machine (program_of programs steps) at 0 after).all (replicate (length out) 0)
 whole_make programs image machine steps moves at after out is ready are long =
-    let zeros = replicate (length moves.cells) (Constant 0) in
-    let zeros_long : length zeros ≡ length moves.cells = length-replicate {A = Cell} (length moves.cells) (Constant 0) in
-    let fits = is.fits in
-    let made = steps_painted programs image machine steps at 0 after zeros out is.over.plain ready are (omega (arith, fits, zeros_long))
-    (omega (arith, zeros_long, long)) in
-    ap (λ (c : List Cell). painted_at image.bytes at 0 c out) is.over.cells ∙ sym made.0
-    ∙ ap (put_pieces (moved image machine (program_of programs steps) at 0 after).all)
-    (painted-zeros image.bytes at (length moves.cells) out long)
+    cells_make programs image machine steps moves.cells at after out
+    (record { plain = is.over.plain; fits = is.fits; over = is.over.cells }) ready are long
 
 pub moves_long : (from_order order : Order) (steps : List Step) (moves : Moving) → IsMovesOf from_order order steps moves
     → length moves.cells ≡ end_of steps

@@ -242,6 +242,14 @@ is_plain_op (Each count elements) = false
 is_plain_op (Many origin elements) = false
 
 -- the moves make what these steps make of a record's bytes that were made as these cells say before,
+-- from a sender of this order whose record has at least so many bytes
+pub record AreMovesWithin (from_order order : Order) (steps : List Step) (below : List Cell)
+    (room : ℕ) (moves : Moving) : Type 0 where
+  pub plain : list_all (λ step. is_plain_op step.task.op) steps ≡ true
+  pub cells : moves.cells ≡ steps_over order from_order steps below
+  pub reach : moves.reach ≤ max (reach_of steps) room
+
+-- the moves make what these steps make of a record's bytes that were made as these cells say before,
 -- from a sender of this order
 pub record AreMovesOver (from_order order : Order) (steps : List Step) (below : List Cell)
     (moves : Moving) : Type 0 where

@@ -1,7 +1,9 @@
 -- Gathers that are run four at a time.
-use Rattle.std.specs.Prelude.{◌≡◌, List, [], ◌∷◌, ◌++◌}
+use Rattle.std.specs.Prelude.{◌≡◌, List, [], ◌∷◌, ◌++◌, length}
 use Rattle.evp_plan.specs.declared.gather.Four.{Four}
 use Rattle.evp_plan.specs.declared.gather.Gather.{Gather}
+use Rattle.evp_plan.specs.declared.gather.Gathers.{Gathers}
+use Rattle.evp_plan.specs.declared.gather.Two.{Two}
 
 -- all of them, one after another
 abbrev pub in_fours : List Four → List Gather
@@ -11,3 +13,15 @@ in_fours (four ∷ fours) = four.one ∷ four.two ∷ four.three ∷ four.four �
 -- the fours and the rest are these gathers
 abbrev pub AreParted : List Gather → List Four → List Gather → Type 0
 AreParted gathers fours rest = in_fours fours ++ rest ≡ gathers
+
+-- fours are all that a record has, where this is the rest of its plain gathers
+pub record AreOnlyFours (gathers : Gathers) (rest : List Gather) : Type 0 where
+  pub no_rest : length rest ≡ 0
+  pub no_pairs : length gathers.pairs.items ≡ 0
+  pub no_mixed : length gathers.mixed.items ≡ 0
+
+-- these two are all that a record has
+pub record AreTwo (gathers : Gathers) (two : Two) : Type 0 where
+  pub both : gathers.plain.items ≡ two.one ∷ two.two ∷ []
+  pub no_pairs : length gathers.pairs.items ≡ 0
+  pub no_mixed : length gathers.mixed.items ≡ 0

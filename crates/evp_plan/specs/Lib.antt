@@ -7,6 +7,8 @@ pub mod Cuts
 pub mod Faults
 pub mod Fills
 pub mod Fours
+pub mod Laid
+pub mod LaidOn
 pub mod Lanes
 pub mod Matching
 pub mod Measuring

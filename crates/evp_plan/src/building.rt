@@ -47,5 +47,5 @@ fn plan_of(alloc: Global, from: &Format, to: &Format) -> Result<Plan, Memory>
     let _receiver = to.types();
     let table = table_of(alloc, from, to)?;
     let alike = *from == *to;
-    Plan::new(alloc, from.order(), to, table, alike)
+    Plan::new(alloc, from, to, table, alike)
 }

@@ -1,9 +1,9 @@
 //! Gathers that are run four at a time.
 
 ghost use Rattle.std.specs.Prelude.{◌≡◌, ◌+◌, ◌*◌, ◌≤◌, true, length, take, drop, IfOk, IfSome};
-ghost use Rattle.evp_plan.specs.Fours.{in_fours};
+ghost use Rattle.evp_plan.specs.Fours.{in_fours, AreOnlyFours, AreTwo};
 
-use crate::gather::{Four, Gather};
+use crate::gather::{Four, Gather, Gathers, Two};
 use evp_base::Memory;
 use std::alloc::Global;
 
@@ -75,4 +75,40 @@ pub(crate) fn gathers_from(
         rest.push(gathers[k])?;
     }
     Ok(rest)
+}
+
+// Whether fours are all that a record has, where this is the rest of its plain gathers.
+pub(crate) fn are_only_fours(gathers: &Gathers, rest: &[Gather]) -> bool
+    ensures { result ≡ true → AreOnlyFours gathers.now rest.now }
+{
+    if rest.len() != 0 {
+        return false;
+    }
+    if gathers.pairs.len() != 0 {
+        return false;
+    }
+    gathers.mixed.len() == 0
+}
+
+// The plain gathers, where they are two and all that a record has.
+pub(crate) fn two_of(gathers: &Gathers) -> Option<Two>
+    ensures { IfSome result (AreTwo gathers.now) }
+{
+    let plain = gathers.plain.as_slice();
+    if plain.len() != 2 {
+        return None;
+    }
+    if gathers.pairs.len() != 0 {
+        return None;
+    }
+    if gathers.mixed.len() != 0 {
+        return None;
+    }
+    let one = plain[0];
+    let two = plain[1];
+    if one.plain && two.plain {
+        Some(Two { one, two })
+    } else {
+        None
+    }
 }

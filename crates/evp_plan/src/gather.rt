@@ -54,3 +54,11 @@ pub(crate) struct Four {
     ghost to: { (two.to ≡ one.to + 16) × ((three.to ≡ one.to + 32) × (four.to ≡ one.to + 48)) },
     ghost at: { (two.at ≡ one.at + 16) × ((three.at ≡ one.at + 32) × (four.at ≡ one.at + 48)) },
 }
+
+// Two plain gathers that are all of a record.
+#[derive(Clone, Copy, Debug)]
+pub(crate) struct Two {
+    pub(crate) one: Gather,
+    pub(crate) two: Gather,
+    ghost plain: { (one.plain ≡ true) × (two.plain ≡ true) },
+}

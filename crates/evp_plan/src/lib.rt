@@ -1,6 +1,7 @@
 //! Conversion plans: what has to be done to a record of one format to make it one of another.
 #![tactic(auto)]
 
+mod block;
 mod build_fault;
 mod building;
 mod builds;
@@ -9,9 +10,11 @@ mod compiling;
 mod cutting;
 mod fill;
 mod fitting;
+mod forms;
 mod fours;
 mod gather;
 mod gathering;
+mod laid;
 mod lane_tests;
 mod matching;
 mod moves;
@@ -28,10 +31,12 @@ mod table;
 mod windows;
 mod words;
 
+pub use block::{Array, Block, Form, Text};
 pub use build_fault::BuildFault;
 pub use building::build;
 pub use builds::Builds;
 pub use cell::Cell;
+pub use laid::Laid;
 pub use moves::Moves;
 pub use plan::Plan;
 pub use quick::Quick;

@@ -2,14 +2,15 @@
 
 ghost use Rattle.std.specs.Prelude.{◌≡◌, ◌+◌, ◌*◌, ◌≤◌, ◌<◌, ℕ, length, replicate, IfOk, IfSome};
 ghost use Rattle.std.specs.List.{All};
-ghost use Rattle.evp_plan.specs.Cells.{painted_at, painted_each, AreMovesOver, IsMovesOf};
+ghost use Rattle.evp_plan.specs.Cells.{painted_at, painted_each, AreMovesWithin, IsMovesOf};
 ghost use Rattle.evp_plan.specs.Cells.{IsWholeOf, AreMovesOf};
+ghost use Rattle.evp_plan.specs.Laid.{AreCellsOf};
 
 use crate::compiling::{MOST, are_same, end_of, filled, lay_all, lay_steps, reach_of};
-use crate::fours::{fours_of, gathers_from};
-use crate::gather::{Four, Gather, Gathers};
+use crate::fours::{are_only_fours, fours_of, gathers_from, two_of};
+use crate::gather::{Four, Gather, Gathers, Two};
 use crate::gathering::gathers_for;
-use crate::running::{run_gathers, run_gathers_each, run_in_fours};
+use crate::running::{run_gathers, run_gathers_each, run_in_fours, run_two};
 use crate::running_pairs::{run_pairs, run_pairs_each};
 use crate::{Cell, Series, Step, Steps};
 use evp_base::{Memory, Order};
@@ -23,15 +24,19 @@ pub struct Moves {
     // The plain gathers, as far as they go four at a time, and the rest of them.
     fours: Vec<Four>,
     rest: Vec<Gather>,
+    // The plain gathers, where they are two and all there is.
+    two: Option<Two>,
+    // Whether the fours are all there is.
+    only_fours: bool,
     length: u32,
     reach: u32,
 }
 
 impl Model for Moves {
-    ghost use Rattle.std.specs.Prelude.{replicate};
+    ghost use Rattle.std.specs.Prelude.{◌≡◌, true, replicate, IfSome};
     ghost use Rattle.evp_plan.specs.declared.cell.Cell.TheVariants.{Keep};
     ghost use Rattle.evp_plan.specs.Cells.{Moving, AreWithin};
-    ghost use Rattle.evp_plan.specs.Fours.{AreParted};
+    ghost use Rattle.evp_plan.specs.Fours.{AreParted, AreOnlyFours, AreTwo};
     ghost use Rattle.evp_plan.specs.Pairs.{all_over};
 
     ghost Value = { Moving };
@@ -42,7 +47,9 @@ impl Model for Moves {
     } };
 
     ghost invariant = { λ m. AreWithin m.length m.reach m.gathers
-        × AreParted m.gathers.plain.items m.fours.items m.rest.items };
+        × (AreParted m.gathers.plain.items m.fours.items m.rest.items
+        × ((m.only_fours ≡ true → AreOnlyFours m.gathers m.rest.items)
+        × IfSome m.two (AreTwo m.gathers))) };
 }
 
 impl Moves {
@@ -53,6 +60,14 @@ impl Moves {
         self.length as usize
     }
 
+    /// How many bytes of the sender's record they read.
+    #[inline(always)]
+    pub fn reach(&self) -> usize
+        ensures { result ≡ self.now.reach }
+    {
+        self.reach as usize
+    }
+
     /// Makes the bytes of `out` from t on, from the sender's record at `at`. Takes no memory.
     #[inline(always)]
     pub fn run(&self, out: &mut [u8], t: usize, from: &[u8], at: usize)
@@ -61,7 +76,23 @@ impl Moves {
         ensures made { out.new ≡ painted_at from.now at t self.now.cells out.old }
         ensures bytes { All (λ byte. byte < 256) from.now }
     {
+        match &self.two {
+            Some(two) => run_two(two, out, t, from, at),
+            None => self.run_lists(out, t, from, at),
+        }
+    }
+
+    // The same list by list.
+    #[inline(always)]
+    fn run_lists(&self, out: &mut [u8], t: usize, from: &[u8], at: usize)
+        requires reach { at + self.now.reach ≤ length from.now }
+        requires room { t + length self.now.cells ≤ length out.old }
+        ensures { out.new ≡ painted_at from.now at t self.now.cells out.old }
+    {
         run_in_fours(self.fours.as_slice(), out, t, from, at);
+        if self.only_fours {
+            return;
+        }
         run_gathers(self.rest.as_slice(), true, out, t, from, at);
         run_pairs(self.gathers.pairs.as_slice(), out, t, from, at);
         run_gathers(self.gathers.mixed.as_slice(), false, out, t, from, at);
@@ -90,7 +121,7 @@ impl Moves {
 }
 
 // The moves that make what these steps make of so many cells of one kind, from a sender of that
-// order; none where gathers don't make all of it.
+// order whose record has at least so many bytes; none where gathers don't make all of it.
 fn moves_over(
     alloc: Global,
     order: Order,
@@ -98,11 +129,12 @@ fn moves_over(
     steps: &[Step],
     below: Cell,
     count: u32,
+    room: u32,
 ) -> Result<Option<Moves>, Memory>
-    ensures { IfOk result (λ made. IfSome made (AreMovesOver from order steps.now
-        (replicate count below))) }
+    ensures { IfOk result (λ made. IfSome made (AreMovesWithin from order steps.now
+        (replicate count below) room)) }
 {
-    let reach = reach_of(steps);
+    let reach = reach_of(steps).max(u64::from(room));
     if count > MOST || reach > u64::from(MOST) {
         return Ok(None);
     }
@@ -120,10 +152,14 @@ fn moves_over(
     }
     let fours = fours_of(alloc, gathers.plain.as_slice())?;
     let rest = gathers_from(alloc, gathers.plain.as_slice(), fours.len() * 4)?;
+    let two = two_of(&gathers);
+    let only_fours = are_only_fours(&gathers, rest.as_slice());
     Ok(Some(Moves {
         gathers,
         fours,
         rest,
+        two,
+        only_fours,
         length: count,
         reach: reach as u32,
     }))
@@ -143,7 +179,7 @@ fn moves_of(
     if end > u64::from(MOST) {
         return Ok(None);
     }
-    moves_over(alloc, order, from, steps, Cell::Keep, end as u32)
+    moves_over(alloc, order, from, steps, Cell::Keep, end as u32, 0)
 }
 
 // The moves that make all of a record of so many bytes by these steps, and zeros between.
@@ -159,7 +195,26 @@ pub(crate) fn whole_of(
     if end_of(steps) > u64::from(count) {
         return Ok(None);
     }
-    moves_over(alloc, order, from, steps, Cell::Constant(0), count)
+    moves_over(alloc, order, from, steps, Cell::Constant(0), count, 0)
+}
+
+// The same from a sender whose record has at least so many bytes.
+pub(crate) fn whole_with(
+    alloc: Global,
+    order: Order,
+    from: Order,
+    steps: &[Step],
+    count: u32,
+    room: u32,
+) -> Result<Option<Moves>, Memory>
+    ensures cells { IfOk result (λ made. IfSome made (λ moves. AreCellsOf from order steps.now
+        moves.cells)) }
+    ensures length { IfOk result (λ made. IfSome made (λ moves. length moves.cells ≡ count)) }
+{
+    if end_of(steps) > u64::from(count) {
+        return Ok(None);
+    }
+    moves_over(alloc, order, from, steps, Cell::Constant(0), count, room)
 }
 
 // The moves for each list of steps.

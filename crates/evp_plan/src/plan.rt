@@ -2,13 +2,14 @@
 
 ghost use Rattle.std.specs.Prelude.{◌≡◌, ◌<◌, ◌≤◌, [], length, get_or, IfOk, IfSome};
 ghost use Rattle.evp_plan.specs.Cells.{IsMovesOf, IsWholeOf};
+ghost use Rattle.evp_plan.specs.Laid.{IsLaidOf};
 ghost use Rattle.evp_plan.specs.Program.{IsOrdered, programs, last_steps};
 ghost use Rattle.evp_plan.specs.Quiet.{tests_of};
 ghost use Rattle.evp_plan.specs.Quicks.{steps_in};
 
 use crate::moves::{all_moves, whole_of};
 use crate::quiet::tests_in;
-use crate::{Moves, QuickTests, Step, Steps};
+use crate::{Laid, Moves, QuickTests, Step, Steps};
 use evp_base::{Memory, Order};
 use evp_format::Format;
 use std::alloc::Global;
@@ -32,13 +33,16 @@ pub struct Plan {
     tests: Vec<Steps>,
     // Those of the last list, with quick tests.
     quick: QuickTests,
+    // What makes all of the record without a look at its steps, where it is so simple.
+    laid: Option<Laid>,
 }
 
 impl Model for Plan {
     ghost use Rattle.std.specs.Prelude.{◌≡◌, ◌≤◌, length, IfSome};
     ghost use Rattle.evp_plan.specs.Planned.{Planned};
-    ghost use Rattle.evp_plan.specs.Program.{IsOrdered, last_steps};
+    ghost use Rattle.evp_plan.specs.Program.{IsOrdered, programs, last_steps};
     ghost use Rattle.evp_plan.specs.Cells.{AreMovesOf, IsWholeOf};
+    ghost use Rattle.evp_plan.specs.Laid.{IsLaidOf};
     ghost use Rattle.evp_plan.specs.Quiet.{tests_in};
     ghost use Rattle.evp_plan.specs.Quicks.{steps_in};
 
@@ -56,7 +60,10 @@ impl Model for Plan {
         × (AreMovesOf p.sender p.order p.table.items p.moves.items
         × (IfSome p.whole (IsWholeOf p.sender p.order (last_steps p.table.items))
         × ((p.tests.items ≡ tests_in p.table.items)
-        × (steps_in p.quick ≡ last_steps p.tests.items))))) };
+        × ((steps_in p.quick ≡ last_steps p.tests.items)
+        × IfSome p.laid (λ laid. IsLaidOf p.sender p.order (programs p.table.items)
+        (last_steps p.table.items) laid
+        × ((length laid.numbers.cells ≡ p.fixed) × (p.pointer ≡ 8)))))))) };
 }
 
 // The last list of steps.
@@ -70,10 +77,10 @@ fn last_list(table: &[Steps]) -> &[Step]
 impl Plan {
     ghost use Rattle.evp_plan.specs.Planned.{planned_of};
 
-    // The plan for a sender of this order and a receiver of this format, by its table.
+    // The plan for a sender and a receiver of these formats, by its table.
     pub(crate) fn new(
         alloc: Global,
-        sender: Order,
+        from: &Format,
         to: &Format,
         table: Vec<Steps>,
         alike: bool,
@@ -83,12 +90,14 @@ impl Plan {
         ensures { IfOk result (λ plan. plan ≡ planned_of to.now table.items alike) }
     {
         let order = to.order();
+        let sender = from.order();
         let fixed = to.root().length;
         let last = last_list(table.as_slice());
         let moves = all_moves(alloc, order, sender, table.as_slice())?;
         let whole = whole_of(alloc, order, sender, last, fixed)?;
         let tests = tests_in(alloc, table.as_slice())?;
         let quick = QuickTests::of_steps(alloc, sender, last_list(tests.as_slice()))?;
+        let laid = Laid::of_steps(alloc, from, to, last, last_list(tests.as_slice()))?;
         Ok(Plan {
             order,
             pointer: to.pointer(),
@@ -100,6 +109,7 @@ impl Plan {
             whole,
             tests,
             quick,
+            laid,
         })
     }
 
@@ -192,5 +202,28 @@ impl Plan {
             Some(moves) => Some(moves),
             None => None,
         }
+    }
+
+    /// What makes all of the record without a look at its steps, from a sender of this order with
+    /// pointers of so many bytes, whose record has so many; none where it isn't so simple.
+    #[inline(always)]
+    pub fn laid(&self, from: Order, pointer: u8, room: usize) -> Option<&Laid>
+        ensures laid { IfSome result (λ laid. IsLaidOf from self.now.order
+            (programs self.now.table) (last_steps self.now.table) laid.now) }
+        ensures fixed { IfSome result (λ laid. length laid.now.numbers.cells ≡ self.now.fixed) }
+        ensures reach { IfSome result (λ laid. laid.now.numbers.reach ≤ room) }
+        ensures sender { IfSome result (λ _. pointer ≡ 8) }
+        ensures receiver { IfSome result (λ _. self.now.pointer ≡ 8) }
+        ensures ordered { IsOrdered self.now.table }
+        ensures some { 1 ≤ length self.now.table }
+    {
+        let _table = self.table();
+        let Some(laid) = &self.laid else {
+            return None;
+        };
+        if self.sender != from || pointer != 8 || laid.numbers().reach() > room {
+            return None;
+        }
+        Some(laid)
     }
 }

@@ -48,7 +48,7 @@ fn char_covers(from: Kind, width: u32) -> bool
 
 // Whether each number of the second kind and of `width` bytes is one of the first and of `size`
 // bytes.
-fn covers(kind: Kind, size: u32, from: Kind, width: u32) -> bool
+pub(crate) fn covers(kind: Kind, size: u32, from: Kind, width: u32) -> bool
     ensures { result ≡ covers kind size from width }
 {
     match kind {

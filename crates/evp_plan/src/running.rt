@@ -7,7 +7,7 @@ ghost use Rattle.evp_plan.specs.Cells.{gathered_at, gathered_each};
 ghost use Rattle.evp_plan.specs.Fours.{in_fours};
 
 use crate::Series;
-use crate::gather::{Four, Gather};
+use crate::gather::{Four, Gather, Two};
 use evp_wide::{gather_blend, gather_signs};
 
 // Makes sixteen bytes from `to` on, of the window that begins at `at`, by a plain gather.
@@ -50,6 +50,32 @@ pub(crate) fn run_in_fours(fours: &[Four], out: &mut [u8], t: usize, from: &[u8]
     for four in fours {
         run_four(four, out, t, from, at);
     }
+}
+
+// Runs two gathers one after the other.
+#[inline(always)]
+pub(crate) fn run_two(two: &Two, out: &mut [u8], t: usize, from: &[u8], at: usize)
+    requires first { (at + two.now.one.at + 16 ≤ length from.now)
+        × (t + two.now.one.to + 16 ≤ length out.old) }
+    requires second { (at + two.now.two.at + 16 ≤ length from.now)
+        × (t + two.now.two.to + 16 ≤ length out.old) }
+    requires bytes { All (λ byte. byte < 256) out.old }
+    ensures { out.new ≡ gathered_at from.now at t (two.now.one ∷ two.now.two ∷ []) out.old }
+{
+    run_plain(
+        &two.one,
+        out,
+        t + two.one.to as usize,
+        from,
+        at + two.one.at as usize,
+    );
+    run_plain(
+        &two.two,
+        out,
+        t + two.two.to as usize,
+        from,
+        at + two.two.at as usize,
+    );
 }
 
 // Makes sixteen bytes of the record at t from the sender's at `at`. Whether the gather is plain may

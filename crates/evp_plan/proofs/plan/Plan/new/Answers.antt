@@ -1,10 +1,12 @@
 use Rattle.std.proofs.Common.{◌∙◌, ap, ℕ, List, IfSome, subst}
 use Rattle.evp_base.specs.declared.order.Order.{Order}
+use Rattle.evp_format.specs.Tree.{root_of, length_of}
 use Rattle.evp_plan.specs.declared.step.Step.{Step}
 use Rattle.evp_plan.specs.Cells.{AreMovesOf, IsWholeOf}
 use Rattle.evp_plan.specs.Planned.{Planned}
-use Rattle.evp_plan.specs.Program.{last_steps}
+use Rattle.evp_plan.specs.Program.{programs, last_steps}
 use Rattle.evp_plan.specs.Quiet.{tests_in}
+use Rattle.evp_plan.proofs.LaidSteps.{plan_laid, last_tests}
 use Rattle.evp_plan.proofs.Tables.{root_length}
 use Rattle.evp_plan.proofs.plan.Plan.new.Goals as goal
 
@@ -20,9 +22,16 @@ returns c =
 
 pub invariant_of-result : goal.invariant_of-result
 invariant_of-result c =
+    let from = c.args.from.now in
+    let to = c.args.to.now in
+    let table = c.args.table.items in
+    let root = c.root.result.now in
+    let sender = c.order-sender.result in
     let last = c.last_list-last.ensures ∙ ap last_steps c.as_slice.ensures.value in
-    let Whole : List Step → Type 0 = λ steps. IfSome c.in_ok-whole.whole (IsWholeOf c.args.sender c.order-order.result steps) in
-    let Moving : List (List Step) → Type 0 = λ table. AreMovesOf c.args.sender c.order-order.result table c.in_ok-moves.moves.items in (
+    let tests = c.in_ok-tests.ensures ∙ ap tests_in c.as_slice-3.ensures.value in
+    let tested = c.last_list-2.ensures ∙ ap last_steps (c.as_slice-5.ensures.value ∙ tests) ∙ last_tests table in
+    let Whole : List Step → Type 0 = λ steps. IfSome c.in_ok-whole.whole (IsWholeOf sender c.order-order.result steps) in
+    let Moving : List (List Step) → Type 0 = λ lists. AreMovesOf sender c.order-order.result lists c.in_ok-moves.moves.items in (
       c.requires.ordered,
       (
         c.requires.some,
@@ -31,8 +40,14 @@ invariant_of-result c =
           (
             subst Whole last c.in_ok-whole.ensures,
             (
-              c.in_ok-tests.ensures ∙ ap tests_in c.as_slice-3.ensures.value,
-              c.in_ok-quick.ensures ∙ c.last_list.ensures ∙ ap last_steps c.as_slice-4.ensures.value,
+              tests,
+              (
+                c.in_ok-quick.ensures ∙ c.last_list.ensures ∙ ap last_steps c.as_slice-4.ensures.value,
+                plan_laid c.in_ok-laid.laid from.order sender to.order c.order-order.result c.last_list-last.result.now
+                    (last_steps table) c.last_list-2.result.now (programs table) (length_of (root_of to)) root.length to.pointer
+                    c.pointer.result c.in_ok-laid.ensures c.order-sender.ensures c.order-order.ensures last tested
+                    (root_length to root c.root.ensures.laid c.root.ensures.value) c.pointer.ensures,
+              ),
             ),
           ),
         ),

@@ -1,3 +1,5 @@
+mod BlockEnds
+mod LaidSizes
 mod Measured
 mod MidPut
 mod Moved
@@ -13,3 +15,7 @@ mod Quieted
 mod Zeros
 mod Filled
 mod Signless
+mod LaidBytes
+mod LaidBlocks
+mod LaidLoop
+mod LaidRecords

@@ -70,7 +70,7 @@ grows_part image machine size part.Text inside grows (Some s) t after = grows_te
 grows_part image machine size part.Record inside grows None t after = grows 0 t after
 grows_part image machine size part.Record inside grows (Some s) t after = grows s t after
 
-grows_op : (image : Image) (machine : Machine) (size : ℕ) (op : Op) (inside : ℕ → ℕ → ℕ → Pieces) → Grows inside → (at t after : ℕ)
+pub grows_op : (image : Image) (machine : Machine) (size : ℕ) (op : Op) (inside : ℕ → ℕ → ℕ → Pieces) → Grows inside → (at t after : ℕ)
     → after ≤ (moved_op image machine size op inside at t after).size
 grows_op image machine size (Number kind origin) inside grows at t after = omega arith
 grows_op image machine size (Text from) inside grows at t after = grows_text machine t after _

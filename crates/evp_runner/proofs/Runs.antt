@@ -64,7 +64,7 @@ sized_made (made value size) n is = let same : size ≡ n = cc in record { value
 sized_made (unfit place) n is = cc
 sized_made (large place) n is = cc
 
-moved_size : (plan : Planned) (held : Record) (to : Layout) (n : ℕ) → StandsFor plan held.layout to → IsRecord held → IsSizeOf plan held n
+pub moved_size : (plan : Planned) (held : Record) (to : Layout) (n : ℕ) → StandsFor plan held.layout to → IsRecord held → IsSizeOf plan held n
     → (moved_whole plan (image_of held.layout held.bytes)).size ≡ n
 moved_size plan held to n stands is size =
     let seen = viewed_as held is in

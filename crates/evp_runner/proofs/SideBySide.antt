@@ -1,19 +1,17 @@
 -- Numbers that stand side by side, put at once.
-use Rattle.std.proofs.Common.{◌≡◌, ◌≢◌, ℕ, zero, suc, ◌+◌, ◌*◌, ◌/◌, ◌<◌, ◌≤◌, IsTrue, List, [], ◌∷◌, ◌++◌, length, take, drop, Option}
+use Rattle.std.proofs.Common.{◌≡◌, ◌≢◌, ℕ, zero, suc, ◌+◌, ◌*◌, ◌/◌, ◌<◌, ◌≤◌, IsTrue, List, length, drop, Option}
 use Rattle.std.proofs.Common.{Some, None, refl, sym, ap, ◌∙◌, subst, arith}
 use Rattle.std.specs.List.{flat_map}
 use Rattle.std.specs.Prelude.{⊤}
 use Rattle.std.proofs.Math.Nat.{mul-div_cancel}
-use Rattle.std.proofs.Math.Seq.{take-append_seam, drop-append-add}
 use Rattle.std.proofs.lemmas.Bool.Decides.{nat_tests}
-use Rattle.std.proofs.lemmas.List.{length-drop, length-take, length-append, drop-drop, drop-take, take-take}
-use Rattle.std.proofs.lemmas.List.{take-append-drop, append_assoc, append-nil}
+use Rattle.std.proofs.lemmas.List.{length-drop, length-take}
 use Rattle.evp_base.specs.Numbers.{number, digits, is_size_of, is_width}
 use Rattle.evp_base.specs.declared.kind.Kind.{Kind}
 use Rattle.evp_base.specs.declared.kind.Kind.TheVariants.{Int, Unsigned, Char, Boolean, Enumeration}
 use Rattle.evp_base.proofs.Numbers.{length-digits}
 use Rattle.evp_format.specs.Bytes.{bytes_at, put_at}
-use Rattle.evp_format.specs.Packing.{Pieces, one_piece, put_pieces}
+use Rattle.evp_format.specs.Packing.{Pieces}
 use Rattle.evp_format.specs.Viewing.{Image}
 use Rattle.evp_plan.specs.declared.step.Elements.{Elements}
 use Rattle.evp_plan.specs.declared.step.Part.{Part}
@@ -25,122 +23,12 @@ use Rattle.evp_plan.specs.Planned.{Planned, machine_in}
 use Rattle.evp_plan.specs.Ready.{IsRunThere, AreElementsThere, IsReady}
 use Rattle.evp_plan.specs.Sound.{IsSoundPart, IsSound}
 use Rattle.evp_plan.specs.Standing.{run_count, run_start}
+use Rattle.evp_plan.proofs.NumbersPut.{next_place, groups_take, length-groups, numbers_size, all_put}
 use Rattle.evp_wide.specs.Elements.{rewritten}
 use Rattle.evp_wide.specs.Groups.{groups, elements}
 use Rattle.evp_runner.specs.Pieces.{IsPut}
 use Rattle.evp_runner.specs.StepIn.{inside, AreFew, AreSideBySide, AreNumbersThere, CanMoveList}
 use Rattle.evp_runner.proofs.Moved.{list_moved}
-
--- ---- bytes put behind one another
-
-put_none : (t : ℕ) (out : List ℕ) → put_at t [] out ≡ out
-put_none t out =
-    let none : t + 0 ≡ t = omega arith in
-    ap (λ (l : List ℕ). l ++ drop (t + 0) out) (append-nil (take t out)) ∙ ap (λ (n : ℕ). take t out ++ drop n out) none
-    ∙ take-append-drop t out
-
-put_long : (t : ℕ) (new out : List ℕ) → t + length new ≤ length out → length (put_at t new out) ≡ length out
-put_long t new out room =
-    let front = take t out in
-    let first = length-append front new in
-    let whole = length-append (front ++ new) (drop (t + length new) out) in
-    let taken = length-take t out in
-    let left = length-drop (t + length new) out in
-    omega (arith, room, first, whole, taken, left)
-
-put_more : (t : ℕ) (first rest out : List ℕ) → t + length first ≤ length out
-    → put_at (t + length first) rest (put_at t first out) ≡ put_at t (first ++ rest) out
-put_more t first rest out room =
-    let front = take t out ++ first in
-    let behind = drop (t + length first) out in
-    let taken = length-take t out in
-    let long = length-append (take t out) first in
-    let seam : length front ≡ t + length first = omega (arith, room, taken, long) in
-    let both = length-append first rest in
-    let last : t + length first + length rest ≡ t + length (first ++ rest) = omega (arith, both) in
-    ap (λ (n : ℕ). put_at n rest (front ++ behind)) (sym seam)
-    ∙ ap (λ (l : List ℕ). l ++ rest ++ drop (length front + length rest) (front ++ behind)) (take-append_seam front behind)
-    ∙ ap (λ (l : List ℕ). front ++ rest ++ l)
-    (drop-append-add front behind (length rest) ∙ drop-drop (length rest) (t + length first) out ∙ ap (λ (n : ℕ). drop n out) last)
-    ∙ ap (λ (l : List ℕ). l ++ drop (t + length (first ++ rest)) out) (append_assoc (take t out) first rest)
-
--- ---- groups
-
-next_place : (k size : ℕ) → suc k * size ≡ k * size + size
-next_place k size = omega arith
-
-groups_take : (size count : ℕ) (bytes : List ℕ) → groups size count (take (count * size) bytes) ≡ groups size count bytes
-groups_take size zero bytes = refl
-groups_take size (suc count) bytes =
-    let more : suc count * size ≡ size + count * size = omega arith in
-    ap (λ (m : ℕ). take size (take m bytes) ∷ groups size count (drop size (take m bytes))) more
-    ∙ ap (λ (l : List ℕ). l ∷ groups size count (drop size (take (size + count * size) bytes)))
-    (take-take size (size + count * size) bytes (omega arith))
-    ∙ ap (λ (l : List ℕ). take size bytes ∷ groups size count l) (drop-take size (count * size) bytes)
-    ∙ ap (λ (l : List (List ℕ)). take size bytes ∷ l) (groups_take size count (drop size bytes))
-
-length-groups : (f : List ℕ → List ℕ) (size width count : ℕ) (bytes : List ℕ) → ((e : List ℕ) → length (f e) ≡ size)
-    → length (flat_map f (groups width count bytes)) ≡ count * size
-length-groups f size width zero bytes long = omega arith
-length-groups f size width (suc count) bytes long =
-    let first = long (take width bytes) in
-    let rest = length-groups f size width count (drop width bytes) long in
-    let both = length-append (f (take width bytes)) (flat_map f (groups width count (drop width bytes))) in
-    let more : suc count * size ≡ size + count * size = omega arith in
-    omega (arith, first, rest, both, more)
-
--- ---- pieces
-
-abbrev number_piece : (List ℕ → List ℕ) → ℕ → ℕ → ℕ → ℕ → ℕ → List ℕ → ℕ → ℕ → Pieces
-number_piece f base size width start stride bytes k later =
-    one_piece (base + k * size) (f (bytes_at (start + k * stride) width bytes)) later
-
-numbers_size : (f : List ℕ → List ℕ) (base size width start stride : ℕ) (bytes : List ℕ) (n k after : ℕ)
-    → after ≡ (moved_elements (λ i later. number_piece f base size width start stride bytes i later) n k after).size
-numbers_size f base size width start stride bytes zero k after = refl
-numbers_size f base size width start stride bytes (suc n) k after = numbers_size f base size width start stride bytes n (suc k) after
-
-numbers_put : (f : List ℕ → List ℕ) (base size width start : ℕ) (bytes : List ℕ) (n k after : ℕ) (out : List ℕ)
-    → ((e : List ℕ) → length (f e) ≡ size) → base + k * size + n * size ≤ length out
-    → put_pieces (moved_elements (λ i later. number_piece f base size width start width bytes i later) n k after).all out
-    ≡ put_at (base + k * size) (flat_map f (groups width n (drop (start + k * width) bytes))) out
-numbers_put f base size width start bytes zero k after out long room = sym (put_none (base + k * size) out)
-numbers_put f base size width start bytes (suc n) k after out long room =
-    let place = base + k * size in
-    let here = drop (start + k * width) bytes in
-    let first = f (take width here) in
-    let sized = long (take width here) in
-    let step = next_place k size in
-    let more : suc n * size ≡ size + n * size = omega arith in
-    let rest = flat_map f (groups width n (drop width here)) in
-    let put = put_at place first out in
-    let whole : length put ≡ length out = put_long place first out (omega (arith, room, sized, more)) in
-    let from_step = next_place k width in
-    let on : start + suc k * width ≡ start + k * width + width = omega (arith, from_step) in
-    let behind : drop (start + suc k * width) bytes ≡ drop width here =
-    ap (λ (m : ℕ). drop m bytes) on ∙ sym (drop-drop width (start + k * width) bytes) in
-    let next : base + suc k * size ≡ place + length first = omega (arith, step, sized) in
-    numbers_put f base size width start bytes n (suc k) after put long (omega (arith, room, whole, step, more))
-    ∙ ap (λ (l : List ℕ). put_at (base + suc k * size) (flat_map f (groups width n l)) put) behind
-    ∙ ap (λ (m : ℕ). put_at m rest put) next ∙ put_more place first rest out (omega (arith, room, sized, more))
-
--- all numbers of an array, from the first on
-all_put : (f : List ℕ → List ℕ) (base size width start stride : ℕ) (bytes : List ℕ) (n after : ℕ) (out : List ℕ)
-    → ((e : List ℕ) → length (f e) ≡ size) → base + n * size ≤ length out → stride ≡ width
-    → put_pieces (moved_elements (λ i later. number_piece f base size width start stride bytes i later) n 0 after).all out
-    ≡ put_at base (flat_map f (groups width n (drop start bytes))) out
-all_put f base size width start stride bytes n after out long room same =
-    let P : ℕ → Type 0 = λ w.
-    put_pieces (moved_elements (λ i later. number_piece f base size width start w bytes i later) n 0 after).all out
-    ≡ put_at base (flat_map f (groups width n (drop start bytes))) out in
-    let none : 0 * size ≡ 0 = omega arith in
-    let none_from : 0 * width ≡ 0 = omega arith in
-    let first : base + 0 * size ≡ base = omega (arith, none) in
-    let begins : start + 0 * width ≡ start = omega (arith, none_from) in
-    subst P (sym same)
-    (numbers_put f base size width start bytes n 0 after out long (omega (arith, room, first))
-    ∙ ap (λ (m : ℕ). put_at m (flat_map f (groups width n (drop (start + 0 * width) bytes))) out) first
-    ∙ ap (λ (m : ℕ). put_at base (flat_map f (groups width n (drop m bytes))) out) begins)
 
 -- ---- elements
 

@@ -7,6 +7,7 @@ mod convert_fault;
 mod counts;
 mod digits;
 mod filling;
+mod laying;
 mod lists;
 mod measuring;
 mod moving;
@@ -18,6 +19,8 @@ mod reading;
 mod run_fault;
 mod running;
 mod sender;
+mod sizing;
+mod words;
 
 pub use convert_fault::ConvertFault;
 pub use passing::{pass, run, run_quickly};

@@ -7,18 +7,20 @@ ghost use Rattle.evp_format.specs.Converting.{convert};
 ghost use Rattle.evp_format.specs.Layout.{Layout};
 ghost use Rattle.evp_format.specs.Viewing.{image_of};
 ghost use Rattle.evp_plan.specs.Planned.{IsPlanFrom, StandsFor, measured_whole};
-ghost use Rattle.evp_record.specs.Record.{value_of};
+ghost use Rattle.evp_record.specs.Record.{IsRecord, record_of, value_of};
 ghost use Rattle.evp_runner.specs.Outcome.{outcome};
 ghost use Rattle.evp_runner.specs.Running.{IsSizeOf, AreConverted};
 ghost use Rattle.evp_runner.specs.StepIn.{image_in};
 
 use crate::ConvertFault;
 use crate::filling::fill_numbers;
+use crate::laying::lay;
 use crate::measuring::{Measure, measure_record};
 use crate::moving::{Move, move_record};
 use crate::quick::quick_record;
 use crate::sender::{Sender, are_bytes};
-use evp_format::Place;
+use crate::sizing::laid_size;
+use evp_format::{Format, Place};
 use evp_plan::Plan;
 use evp_record::Checked;
 use evp_wide::clear;
@@ -49,8 +51,27 @@ pub(crate) fn measure_quickly(plan: &Plan, item: &Checked, limit: u32) -> Option
     ensures size { IfSome result (λ size. IsSizeOf plan.now item.now size) }
 {
     let _held = item.bytes();
+    if let Some(size) = laid_whole(plan, item, limit) {
+        return Some(size);
+    }
     let size = quick_whole(plan, item, limit)?;
     Some(size)
+}
+
+// The packed size, where the record is made without a look at its steps, and its texts' ends stand
+// near.
+#[inline(always)]
+fn laid_whole(plan: &Plan, item: &Checked, limit: u32) -> Option<u32>
+    requires { IsPlanFrom plan.now item.now.layout }
+    ensures { IfSome result (λ size. Ok size
+        ≡ outcome (measured_whole plan.now (image_of item.now.layout item.now.bytes) limit)) }
+{
+    let _held = item.bytes();
+    let sender = sender_of(item);
+    let laid = plan.laid(sender.order, sender.pointer, sender.bytes.len())?;
+    let fixed = plan.fixed() as usize;
+    let size = laid_size(laid.blocks(), sender.bytes, sender.order, fixed, limit)?;
+    Some(size as u32)
 }
 
 // The packed size, where it is easily seen that nothing is refused: without a call where the plan
@@ -74,7 +95,7 @@ fn quick_whole(plan: &Plan, item: &Checked, limit: u32) -> Option<u32>
     if is_told(plan, item) {
         return Some(plan.fixed());
     }
-    tested_whole(plan, item, limit)
+    tested_whole(plan, item.format(), item.bytes(), limit)
 }
 
 // Whether the plan tests numbers alone, and windows tell that each of them fits.
@@ -91,16 +112,17 @@ fn is_told(plan: &Plan, item: &Checked) -> bool
     tests.are_told(sender.bytes, 0, sender.order)
 }
 
-// The packed size, where the tests of the plan easily show that nothing is refused.
+// The packed size, where the tests of the plan easily show that nothing is refused. It takes the
+// record's parts, as what stands apart does: so no caller has to hold a record in memory for it.
 #[inline(never)]
-fn tested_whole(plan: &Plan, item: &Checked, limit: u32) -> Option<u32>
-    requires plan_from { IsPlanFrom plan.now item.now.layout }
+fn tested_whole(plan: &Plan, format: &Format, bytes: &[u8], limit: u32) -> Option<u32>
+    requires held { IsRecord (record_of format.now bytes.now) }
+    requires plan_from { IsPlanFrom plan.now format.now }
     requires within { plan.now.fixed ≤ limit }
     ensures { IfSome result (λ size. Ok size
-        ≡ outcome (measured_whole plan.now (image_of item.now.layout item.now.bytes) limit)) }
+        ≡ outcome (measured_whole plan.now (image_of format.now bytes.now) limit)) }
 {
-    let _held = item.bytes();
-    let sender = sender_of(item);
+    let sender = sender_by(format, bytes);
     let measure = Measure {
         plan,
         sender,
@@ -112,32 +134,35 @@ fn tested_whole(plan: &Plan, item: &Checked, limit: u32) -> Option<u32>
     }
 }
 
-/// The same as `measure`, with the place of a fault. Apart from it, since room for a fault is made
-/// of zeros first.
-#[inline(never)]
+/// The same as `measure`, with the place of a fault.
+#[inline(always)]
 pub(crate) fn measure_fully(plan: &Plan, item: Checked, limit: u32) -> Result<u32, ConvertFault>
     requires { IsPlanFrom plan.now item.layout }
     ensures value { (to : Layout) → StandsFor plan.now item.entry.layout to
         → result ≡ outcome (convert to (value_of item.entry) limit) }
     ensures size { IfOk result (λ size. IsSizeOf plan.now item.entry size) }
 {
-    let _held = item.bytes();
-    let size = measure_whole(plan, &item, limit)?;
-    Ok(size as u32)
+    measure_whole(plan, item.format(), item.bytes(), limit)
 }
 
-// The packed size, or the first fault.
-fn measure_whole(plan: &Plan, item: &Checked, limit: u32) -> Result<usize, ConvertFault>
-    requires { IsPlanFrom plan.now item.now.layout }
-    ensures value { result ≡ outcome (measured_whole plan.now (image_of item.now.layout item.now.bytes) limit) }
-    ensures bound { IfOk result (λ size. size < 2 ^ 32) }
+// The packed size, or the first fault. Apart from its callers, since room for a fault is made of
+// zeros first.
+#[inline(never)]
+fn measure_whole(
+    plan: &Plan,
+    format: &Format,
+    bytes: &[u8],
+    limit: u32,
+) -> Result<u32, ConvertFault>
+    requires held { IsRecord (record_of format.now bytes.now) }
+    requires plan_from { IsPlanFrom plan.now format.now }
+    ensures { result ≡ outcome (measured_whole plan.now (image_of format.now bytes.now) limit) }
 {
     let fixed = plan.fixed();
     if fixed > limit {
         return Err(ConvertFault::Large(Place::root()));
     }
-    let _held = item.bytes();
-    let sender = sender_of(item);
+    let sender = sender_by(format, bytes);
     let measure = Measure {
         plan,
         sender,
@@ -146,16 +171,25 @@ fn measure_whole(plan: &Plan, item: &Checked, limit: u32) -> Result<usize, Conve
     let lists = plan.table();
     let count = lists.len();
     let place = Place::root();
-    measure_record(&measure, count - 1, 0, &place, fixed as usize)
+    let size = measure_record(&measure, count - 1, 0, &place, fixed as usize)?;
+    Ok(size as u32)
 }
 
 // The record's bytes, and how its machine stores numbers.
+#[inline(always)]
 fn sender_of<'a>(item: &Checked<'a>) -> Sender<'a>
     ensures { image_in result ≡ image_of item.now.layout item.now.bytes }
 {
-    let format = item.format();
+    sender_by(item.format(), item.bytes())
+}
+
+// The same by the parts of the record.
+#[inline(always)]
+fn sender_by<'a>(format: &Format, bytes: &'a [u8]) -> Sender<'a>
+    requires { IsRecord (record_of format.now bytes.now) }
+    ensures { image_in result ≡ image_of format.now bytes.now }
+{
     let _types = format.types();
-    let bytes = item.bytes();
     are_bytes(bytes);
     Sender {
         bytes,
@@ -191,19 +225,27 @@ pub(crate) fn run_over(plan: &Plan, item: Checked, out: &mut [u8], is_zero: bool
             return;
         }
     }
-    run_steps(plan, item, out, is_zero)
+    if let Some(laid) = plan.laid(sender.order, sender.pointer, sender.bytes.len()) {
+        let work = Move { plan, sender };
+        if lay(&work, laid, out) {
+            return;
+        }
+        run_steps(plan, item.format(), item.bytes(), out, false);
+        return;
+    }
+    run_steps(plan, item.format(), item.bytes(), out, is_zero)
 }
 
 // The same by the steps. Apart from it, so that the moves are all that its callers hold.
 #[inline(never)]
-fn run_steps(plan: &Plan, item: Checked, out: &mut [u8], is_zero: bool)
-    requires plan_from { IsPlanFrom plan.now item.layout }
-    requires size { IsSizeOf plan.now item (length out.old) }
+fn run_steps(plan: &Plan, format: &Format, bytes: &[u8], out: &mut [u8], is_zero: bool)
+    requires held { IsRecord (record_of format.now bytes.now) }
+    requires plan_from { IsPlanFrom plan.now format.now }
+    requires size { IsSizeOf plan.now (record_of format.now bytes.now) (length out.old) }
     requires zero { IsTrue is_zero → out.old ≡ replicate (length out.old) 0 }
-    ensures { AreConverted plan.now item.entry out.new }
+    ensures { AreConverted plan.now (record_of format.now bytes.now) out.new }
 {
-    let _held = item.bytes();
-    let sender = sender_of(&item);
+    let sender = sender_by(format, bytes);
     let work = Move { plan, sender };
     let lists = plan.table();
     let count = lists.len();

@@ -1,9 +1,22 @@
-use Rattle.std.proofs.Common.{◌-◌, length, refl, arith}
+use Rattle.std.proofs.Common.{◌≡◌, ℕ, ◌-◌, List, length, refl, arith, subst}
 use Rattle.std.specs.Prelude.{replicate}
+use Rattle.evp_format.specs.Layout.{Layout}
+use Rattle.evp_plan.specs.Planned.{Planned}
+use Rattle.evp_record.specs.Record.{Record, record_of}
+use Rattle.evp_runner.specs.Running.{AreConverted}
 use Rattle.evp_runner.specs.StepIn.{image_in}
 use Rattle.evp_runner.proofs.Painting.{paints_all, all_reach, all_put}
+use Rattle.evp_runner.proofs.LaidRecords.{can_lay_all, laid_converted}
 use Rattle.evp_runner.proofs.Runs.{converted_whole}
 use Rattle.evp_runner.proofs.running.run_over.Goals as goal
+
+-- what was made of a record's parts is made of the record
+of_parts : (plan : Planned) (held : Record) (layout : Layout) (bytes new : List ℕ) → layout ≡ held.layout → bytes ≡ held.bytes
+    → AreConverted plan (record_of layout bytes) new → AreConverted plan held new
+of_parts plan held layout bytes new layout_is bytes_are made =
+    let Layouts : Layout → Type 0 = λ l. AreConverted plan (record_of l bytes) new in
+    let Bytes : List ℕ → Type 0 = λ b. AreConverted plan (record_of held.layout b) new in
+    subst Bytes bytes_are (subst Layouts layout_is made)
 
 pub run-requires-clause-reach : goal.run-requires-clause-reach
 run-requires-clause-reach c =
@@ -29,3 +42,25 @@ returns-then-length-out c =
     converted_whole plan c.args.item c.requires.plan_from.to image (length plan.table - 1) plan.fixed (length out) _
     (replicate (length out) 0) c.run.new.out c.requires.plan_from.stands c.bytes-held.ensures.kept c.requires.size
     c.sender_of-sender.ensures refl refl refl put
+
+pub lay-requires-clause-can : goal.lay-requires-clause-can
+lay-requires-clause-can c =
+    let e = c.in-Some-laid.ensures in
+    can_lay_all c.args.plan.now c.args.item c.requires.plan_from.to (image_in c.sender_of-sender.result) c.in-Some-laid.laid.now
+    (length c.args.out.now) c.requires.plan_from.stands c.bytes-held.ensures.kept c.requires.size c.sender_of-sender.ensures
+    e.ordered e.some e.laid e.fixed e.reach
+
+pub returns-then-lay : goal.returns-then-lay
+returns-then-lay c =
+    let e = c.in-Some-laid.ensures in
+    laid_converted c.args.plan.now c.args.item c.requires.plan_from.to (image_in c.sender_of-sender.result) c.in-Some-laid.laid.now
+    (length c.args.out.now) c.lay.new.out c.requires.plan_from.stands c.bytes-held.ensures.kept c.requires.size
+    c.sender_of-sender.ensures e.ordered e.some e.fixed c.lay.auto.out (c.lay.ensures c.if-lay.true)
+
+pub returns-in-Some-laid : goal.returns-in-Some-laid
+returns-in-Some-laid c = of_parts c.args.plan.now c.args.item c.format.result.now c.bytes.result.now c.run_steps.new.out
+    c.format.ensures.value c.bytes.ensures.value c.run_steps.ensures
+
+pub returns : goal.returns
+returns c = of_parts c.args.plan.now c.args.item c.format-2.result.now c.bytes-2.result.now c.run_steps-2.new.out
+    c.format-2.ensures.value c.bytes-2.ensures.value c.run_steps-2.ensures

@@ -3,6 +3,7 @@
 mod answers;
 mod bytes;
 mod kinds;
+mod laid;
 mod lending;
 mod lengths;
 mod many;

@@ -65,6 +65,7 @@ pub fn checked<'a>(
 }
 
 /// The record, where the bytes are one.
+#[inline(always)]
 pub fn legal<'a>(format: &'a Format, bytes: &'a [u8]) -> Option<Checked<'a>>
     ensures { IfSome result (λ item. item ≡ record_of format.now bytes.now) }
 {
@@ -86,7 +87,7 @@ pub enum Way {
 }
 
 /// A plan for two formats, and the way in which it is used.
-#[derive(Drop)]
+#[derive(Clone, Copy)]
 pub struct Method<'a> {
     pub alloc: Global,
     pub way: Way,
@@ -124,8 +125,11 @@ impl<'a> Method<'a> {
     {
         match way {
             Way::Into => {
-                let size = measure(self.plan, item.copy(), LIMIT).ok()?;
-                let out = out.get_mut(..size as usize)?;
+                let size = measure(self.plan, item.copy(), LIMIT).ok()? as usize;
+                if size > out.len() {
+                    return None;
+                }
+                let out = &mut out[..size];
                 run_into(self.plan, item, out);
                 Some(CowSlice::Borrowed(out))
             }

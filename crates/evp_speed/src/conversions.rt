@@ -59,9 +59,11 @@ impl<'a> Ready<'a> {
         requires plan { StandsFor self.now.method.plan.now self.now.method.from.now
             self.now.method.to.now }
     {
+        // a copy, so that what is written doesn't make it be read again
+        let method = self.method;
         let mut bytes = 0u64;
         for item in &self.items {
-            if let Some(made) = self.method.convert(way, item.copy(), out) {
+            if let Some(made) = method.convert(way, item.copy(), out) {
                 bytes = bytes.wrapping_add(made.as_slice().len() as u64);
             }
         }
@@ -119,10 +121,11 @@ impl<'a> Whole<'a> {
         requires { StandsFor self.now.method.plan.now self.now.method.from.now
             self.now.method.to.now }
     {
+        let method = self.method;
         let mut bytes = 0u64;
         for record in self.records {
-            if let Some(item) = legal(self.method.from, record) {
-                if let Some(made) = self.method.convert(way, item, out) {
+            if let Some(item) = legal(method.from, record) {
+                if let Some(made) = method.convert(way, item, out) {
                     bytes = bytes.wrapping_add(made.as_slice().len() as u64);
                 }
             }

@@ -211,8 +211,8 @@ fn lay_by(work: &Move, laid: &Laid, order: Order, out: &mut [u8], to_order: Orde
 }
 
 /// Makes all of the record, whatever stood there, where each of its blocks is easily laid; else
-/// `out` may be anything.
-#[inline(always)]
+/// `out` may be anything. Apart from its callers, which would grow too large to stand in theirs.
+#[inline(never)]
 pub(crate) fn lay(work: &Move, laid: &Laid, out: &mut [u8]) -> bool
     requires from_pointer { work.now.sender.pointer ≡ 8 }
     requires to_pointer { work.now.plan.now.pointer ≡ 8 }

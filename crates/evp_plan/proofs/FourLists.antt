@@ -156,11 +156,3 @@ two_fit n reach at t long room one two gathers is within reaches fits =
       (omega (arith, both.0.1, reaches), omega (arith, both.0.0, fits)),
       (omega (arith, both.1.1, reaches), omega (arith, both.1.0, fits)),
     )
-
-pub two_items : (gathers : List Gather) (one two : Gather) → length gathers ≡ 2 → one ≡ get_or gathers 0 one → two ≡ get_or gathers 1 two
-    → gathers ≡ one ∷ two ∷ []
-two_items [] one two long is is' = absurd (omega (arith, long))
-two_items (a ∷ []) one two long is is' = absurd (omega (arith, long))
-two_items (a ∷ b ∷ []) one two long is is' =
-    ap (λ (g : Gather). g ∷ b ∷ []) (sym is) ∙ ap (λ (g : Gather). one ∷ g ∷ []) (sym is')
-two_items (a ∷ b ∷ c ∷ gathers) one two long is is' = absurd (omega (arith, long))

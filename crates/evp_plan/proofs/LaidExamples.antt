@@ -1,7 +1,7 @@
 -- Records that are laid by example: which steps make numbers and which blocks, and which blocks these are.
 use Rattle.std.specs.Prelude.{◌≡◌, true, false, [], ◌∷◌, Some, None, List}
 use Rattle.std.proofs.Common.{refl}
-use Rattle.evp_base.specs.declared.kind.Kind.TheVariants.{Int, Unsigned, Boolean, Enumeration}
+use Rattle.evp_base.specs.declared.kind.Kind.TheVariants.{Int, Unsigned, Enumeration}
 use Rattle.evp_plan.specs.declared.block.Block.TheVariants as block
 use Rattle.evp_plan.specs.declared.block.Form.TheVariants.{TwoToEight, FourToEight, TwoToFour}
 use Rattle.evp_plan.specs.declared.step.Op.TheVariants.{Number, Text, Many}

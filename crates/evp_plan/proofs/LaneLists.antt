@@ -1,8 +1,8 @@
 -- Windows that are looked at one after another.
-use Rattle.std.proofs.Common.{◌≡◌, ℕ, ◌+◌, ◌<◌, ◌≤◌, List, length, get_or, take, sym, ap, ◌∙◌, subst, Fits, w8, arith}
+use Rattle.std.proofs.Common.{◌≡◌, ℕ, ◌+◌, ◌-◌, ◌<◌, ◌≤◌, List, [], ◌∷◌, length, get_or, take, drop, sym, ap, ◌∙◌, subst, Fits, w8, arith}
 use Rattle.std.specs.List.{All}
 use Rattle.std.proofs.lemmas.List.{get_or-map, length-map, take_all}
-use Rattle.std.proofs.lemmas.List.Elements.{All-from_get_or}
+use Rattle.std.proofs.lemmas.List.Elements.{All-cons, All-tail, All-from_get_or}
 use Rattle.evp_base.specs.declared.order.Order.{Order}
 use Rattle.evp_wide.specs.Gathered.{picked, gathered, sign_byte, signs_gathered}
 use Rattle.evp_plan.specs.declared.fill.Fill.{Fill}
@@ -23,6 +23,19 @@ lane_fills picks signs bytes k pick sign within signs_within pick_is sign_is sam
 -- of each that was looked at
 pub all_taken : {X : Type 0} (P : X → Type 0) (xs : List X) (k : ℕ) → length xs ≤ k → All P (take k xs) → All P xs
 all_taken {X} P xs k past all = subst (λ (l : List X). All P l) (take_all k xs past) all
+
+-- two more that were looked at, of which those behind them are left
+pub two_more : {X : Type 0} (P Q : X → Type 0) (xs : List X) (one two : X) → 2 ≤ length xs → one ≡ get_or xs 0 one
+    → two ≡ get_or xs 1 two → P one → P two → All Q xs
+    → All Q (take (length xs - 2) (drop 2 xs)) × (All P (take (length xs - 2) (drop 2 xs)) → All P xs)
+two_more P Q [] one two long one_is two_is first second all = absurd (omega (arith, long))
+two_more P Q (a ∷ []) one two long one_is two_is first second all = absurd (omega (arith, long))
+two_more {X} P Q (a ∷ b ∷ xs) one two long one_is two_is first second all =
+    let same : take (length (a ∷ b ∷ xs) - 2) xs ≡ xs = take_all (length (a ∷ b ∷ xs) - 2) xs (omega arith) in (
+      subst (λ (l : List X). All Q l) (sym same) (All-tail Q b xs (All-tail Q a (b ∷ xs) all)),
+      λ rest. All-cons P a (b ∷ xs) (subst P one_is first) (All-cons P b xs (subst P two_is second)
+          (subst (λ (l : List X). All P l) same rest)),
+    )
 
 -- windows that look at all fills of the words, and end where the words do
 pub lanes_are : (order : Order) (tests : List Quick) (reach : ℕ) (fills : List Fill) (windows : List Window) → IsReachOf tests reach

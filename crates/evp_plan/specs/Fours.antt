@@ -14,14 +14,16 @@ in_fours (four ∷ fours) = four.one ∷ four.two ∷ four.three ∷ four.four �
 abbrev pub AreParted : List Gather → List Four → List Gather → Type 0
 AreParted gathers fours rest = in_fours fours ++ rest ≡ gathers
 
--- fours are all that a record has, where this is the rest of its plain gathers
-pub record AreOnlyFours (gathers : Gathers) (rest : List Gather) : Type 0 where
-  pub no_rest : length rest ≡ 0
+-- plain gathers are all that a record has
+pub record AreOnlyPlain (gathers : Gathers) : Type 0 where
   pub no_pairs : length gathers.pairs.items ≡ 0
   pub no_mixed : length gathers.mixed.items ≡ 0
 
--- these two are all that a record has
-pub record AreTwo (gathers : Gathers) (two : Two) : Type 0 where
-  pub both : gathers.plain.items ≡ two.one ∷ two.two ∷ []
-  pub no_pairs : length gathers.pairs.items ≡ 0
-  pub no_mixed : length gathers.mixed.items ≡ 0
+-- fours are, where this is the rest of its plain gathers
+pub record AreOnlyFours (gathers : Gathers) (rest : List Gather) : Type 0 where
+  pub no_rest : length rest ≡ 0
+  pub only_plain : AreOnlyPlain gathers
+
+-- these two are all plain gathers
+abbrev pub AreTwo : List Gather → Two → Type 0
+AreTwo plain two = plain ≡ two.one ∷ two.two ∷ []

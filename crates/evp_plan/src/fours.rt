@@ -1,7 +1,7 @@
 //! Gathers that are run four at a time.
 
 ghost use Rattle.std.specs.Prelude.{◌≡◌, ◌+◌, ◌*◌, ◌≤◌, true, length, take, drop, IfOk, IfSome};
-ghost use Rattle.evp_plan.specs.Fours.{in_fours, AreOnlyFours, AreTwo};
+ghost use Rattle.evp_plan.specs.Fours.{in_fours, AreOnlyPlain, AreOnlyFours, AreTwo};
 
 use crate::gather::{Four, Gather, Gathers, Two};
 use evp_base::Memory;
@@ -77,31 +77,31 @@ pub(crate) fn gathers_from(
     Ok(rest)
 }
 
-// Whether fours are all that a record has, where this is the rest of its plain gathers.
-pub(crate) fn are_only_fours(gathers: &Gathers, rest: &[Gather]) -> bool
-    ensures { result ≡ true → AreOnlyFours gathers.now rest.now }
+// Whether plain gathers are all that a record has.
+pub(crate) fn are_only_plain(gathers: &Gathers) -> bool
+    ensures { result ≡ true → AreOnlyPlain gathers.now }
 {
-    if rest.len() != 0 {
-        return false;
-    }
     if gathers.pairs.len() != 0 {
         return false;
     }
     gathers.mixed.len() == 0
 }
 
-// The plain gathers, where they are two and all that a record has.
-pub(crate) fn two_of(gathers: &Gathers) -> Option<Two>
-    ensures { IfSome result (AreTwo gathers.now) }
+// Whether fours are, where this is the rest of its plain gathers.
+pub(crate) fn are_only_fours(gathers: &Gathers, rest: &[Gather]) -> bool
+    ensures { result ≡ true → AreOnlyFours gathers.now rest.now }
 {
-    let plain = gathers.plain.as_slice();
+    if rest.len() != 0 {
+        return false;
+    }
+    are_only_plain(gathers)
+}
+
+// The plain gathers, where they are two.
+pub(crate) fn two_of(plain: &[Gather]) -> Option<Two>
+    ensures { IfSome result (AreTwo plain.now) }
+{
     if plain.len() != 2 {
-        return None;
-    }
-    if gathers.pairs.len() != 0 {
-        return None;
-    }
-    if gathers.mixed.len() != 0 {
         return None;
     }
     let one = plain[0];

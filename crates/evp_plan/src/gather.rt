@@ -55,7 +55,7 @@ pub(crate) struct Four {
     ghost at: { (two.at ≡ one.at + 16) × ((three.at ≡ one.at + 32) × (four.at ≡ one.at + 48)) },
 }
 
-// Two plain gathers that are all of a record.
+// Two plain gathers of a record that has no others.
 #[derive(Clone, Copy, Debug)]
 pub(crate) struct Two {
     pub(crate) one: Gather,

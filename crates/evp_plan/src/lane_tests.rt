@@ -10,7 +10,7 @@ use crate::cutting::fills_of;
 use crate::fill::{Fill, Lanes, Window};
 use crate::windows::{place_in, reach_of, windows_for};
 use evp_base::{Memory, Order};
-use evp_wide::are_fills;
+use evp_wide::{are_both_fills, are_fills};
 use std::alloc::Global;
 
 // Whether the byte of the one place is compared with the sign of the other.
@@ -67,18 +67,41 @@ fn are_looked_at(windows: &[Window], fills: &[Fill]) -> bool
     true
 }
 
+// Whether two windows of the record at `at` have their fills.
+#[inline(always)]
+fn have_both(one: &Window, two: &Window, bytes: &[u8], at: usize) -> bool
+    requires one { at + one.now.at + 16 ≤ length bytes.now }
+    requires two { at + two.now.at + 16 ≤ length bytes.now }
+    ensures { IsTrue result → HasFills at bytes.now one.now × HasFills at bytes.now two.now }
+{
+    are_both_fills(
+        bytes,
+        at + one.at,
+        &one.picks,
+        &one.signs,
+        at + two.at,
+        &two.picks,
+        &two.signs,
+    )
+}
+
 // Whether all windows of the record at `at` have their fills.
 #[inline(always)]
 pub(crate) fn have_fills(windows: &[Window], bytes: &[u8], at: usize) -> bool
     requires { AreInside at bytes.now windows.now }
     ensures { IsTrue result → HaveFills at bytes.now windows.now }
 {
-    for window in windows {
-        if !are_fills(bytes, at + window.at, &window.picks, &window.signs) {
+    let mut left = windows;
+    while let [one, two, rest @ ..] = left {
+        if !have_both(one, two, bytes, at) {
             return false;
         }
+        left = rest;
     }
-    true
+    match left {
+        [window] => are_fills(bytes, at + window.at, &window.picks, &window.signs),
+        _ => true,
+    }
 }
 
 // Windows that tell the words of these tests, of a sender of this order, where there are fewer than

@@ -7,11 +7,11 @@ ghost use Rattle.evp_plan.specs.Cells.{IsWholeOf, AreMovesOf};
 ghost use Rattle.evp_plan.specs.Laid.{AreCellsOf};
 
 use crate::compiling::{MOST, are_same, end_of, filled, lay_all, lay_steps, reach_of};
-use crate::fours::{are_only_fours, fours_of, gathers_from, two_of};
+use crate::fours::{are_only_fours, are_only_plain, fours_of, gathers_from, two_of};
 use crate::gather::{Four, Gather, Gathers, Two};
 use crate::gathering::gathers_for;
 use crate::running::{run_gathers, run_gathers_each, run_in_fours, run_two};
-use crate::running_pairs::{run_pairs, run_pairs_each};
+use crate::running_pairs::{run_behind, run_pairs_each};
 use crate::{Cell, Series, Step, Steps};
 use evp_base::{Memory, Order};
 use std::alloc::Global;
@@ -24,9 +24,11 @@ pub struct Moves {
     // The plain gathers, as far as they go four at a time, and the rest of them.
     fours: Vec<Four>,
     rest: Vec<Gather>,
-    // The plain gathers, where they are two and all there is.
+    // The plain gathers, where they are two.
     two: Option<Two>,
-    // Whether the fours are all there is.
+    // Whether the plain gathers are all there is.
+    only_plain: bool,
+    // Whether the fours are.
     only_fours: bool,
     length: u32,
     reach: u32,
@@ -36,7 +38,7 @@ impl Model for Moves {
     ghost use Rattle.std.specs.Prelude.{◌≡◌, true, replicate, IfSome};
     ghost use Rattle.evp_plan.specs.declared.cell.Cell.TheVariants.{Keep};
     ghost use Rattle.evp_plan.specs.Cells.{Moving, AreWithin};
-    ghost use Rattle.evp_plan.specs.Fours.{AreParted, AreOnlyFours, AreTwo};
+    ghost use Rattle.evp_plan.specs.Fours.{AreParted, AreOnlyPlain, AreOnlyFours, AreTwo};
     ghost use Rattle.evp_plan.specs.Pairs.{all_over};
 
     ghost Value = { Moving };
@@ -48,8 +50,9 @@ impl Model for Moves {
 
     ghost invariant = { λ m. AreWithin m.length m.reach m.gathers
         × (AreParted m.gathers.plain.items m.fours.items m.rest.items
+        × ((m.only_plain ≡ true → AreOnlyPlain m.gathers)
         × ((m.only_fours ≡ true → AreOnlyFours m.gathers m.rest.items)
-        × IfSome m.two (AreTwo m.gathers))) };
+        × IfSome m.two (AreTwo m.gathers.plain.items)))) };
 }
 
 impl Moves {
@@ -77,25 +80,21 @@ impl Moves {
         ensures bytes { All (λ byte. byte < 256) from.now }
     {
         match &self.two {
-            Some(two) => run_two(two, out, t, from, at),
-            None => self.run_lists(out, t, from, at),
+            Some(two) => {
+                run_two(two, out, t, from, at);
+                if self.only_plain {
+                    return;
+                }
+            }
+            None => {
+                run_in_fours(self.fours.as_slice(), out, t, from, at);
+                if self.only_fours {
+                    return;
+                }
+                run_gathers(self.rest.as_slice(), true, out, t, from, at);
+            }
         }
-    }
-
-    // The same list by list.
-    #[inline(always)]
-    fn run_lists(&self, out: &mut [u8], t: usize, from: &[u8], at: usize)
-        requires reach { at + self.now.reach ≤ length from.now }
-        requires room { t + length self.now.cells ≤ length out.old }
-        ensures { out.new ≡ painted_at from.now at t self.now.cells out.old }
-    {
-        run_in_fours(self.fours.as_slice(), out, t, from, at);
-        if self.only_fours {
-            return;
-        }
-        run_gathers(self.rest.as_slice(), true, out, t, from, at);
-        run_pairs(self.gathers.pairs.as_slice(), out, t, from, at);
-        run_gathers(self.gathers.mixed.as_slice(), false, out, t, from, at);
+        run_behind(&self.gathers, out, t, from, at);
     }
 
     /// Makes the bytes of n records of `out`, each from one of the sender's records. Takes no memory.
@@ -152,13 +151,15 @@ fn moves_over(
     }
     let fours = fours_of(alloc, gathers.plain.as_slice())?;
     let rest = gathers_from(alloc, gathers.plain.as_slice(), fours.len() * 4)?;
-    let two = two_of(&gathers);
+    let two = two_of(gathers.plain.as_slice());
+    let only_plain = are_only_plain(&gathers);
     let only_fours = are_only_fours(&gathers, rest.as_slice());
     Ok(Some(Moves {
         gathers,
         fours,
         rest,
         two,
+        only_plain,
         only_fours,
         length: count,
         reach: reach as u32,

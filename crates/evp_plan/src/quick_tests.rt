@@ -25,12 +25,14 @@ pub struct QuickTests {
     eights: Vec<Words>,
     // Whether all of them have words.
     numbers: bool,
-    // Windows that tell their words, where there are such.
+    // Windows that tell their words, where there are such: those of lists that have other tests too,
+    // and those of lists whose tests are all of numbers.
     lanes: Option<Lanes>,
+    sole: Option<Lanes>,
 }
 
 impl Model for QuickTests {
-    ghost use Rattle.std.specs.Prelude.{◌≡◌, List, IfSome};
+    ghost use Rattle.std.specs.Prelude.{◌≡◌, List, IfSome, true};
     ghost use Rattle.std.specs.List.{All};
     ghost use Rattle.evp_plan.specs.declared.quick.Quick.{Quick};
     ghost use Rattle.evp_plan.specs.Lanes.{AreLanesOf};
@@ -46,7 +48,9 @@ impl Model for QuickTests {
         × ((t.fours.items ≡ words_in 4 t.list.items)
         × ((t.eights.items ≡ words_in 8 t.list.items)
         × ((t.numbers ≡ have_words t.list.items)
-        × IfSome t.lanes (λ lanes. AreLanesOf lanes.order t.list.items lanes.windows.items)))))) };
+        × (IfSome t.lanes (λ lanes. AreLanesOf lanes.order t.list.items lanes.windows.items)
+        × IfSome t.sole (λ lanes. (have_words t.list.items ≡ true)
+        × AreLanesOf lanes.order t.list.items lanes.windows.items))))))) };
 }
 
 // Whether words of so many bytes, of each entry, stand in the record at `at`.
@@ -78,6 +82,28 @@ fn has_words(test: &Quick) -> bool
     test.words.is_some()
 }
 
+// Windows that tell the words of tests that aren't all of numbers, where there are such.
+fn mixed_lanes(alloc: Global, order: Order, tests: &[Quick]) -> Result<Option<Lanes>, Memory>
+    ensures { IfOk result (λ made. IfSome made (λ lanes.
+        AreLanesOf lanes.order tests.now lanes.windows.items)) }
+{
+    if have_words(tests) {
+        return Ok(None);
+    }
+    lanes_of(alloc, order, tests)
+}
+
+// The same of tests that are all of numbers.
+fn sole_lanes(alloc: Global, order: Order, tests: &[Quick]) -> Result<Option<Lanes>, Memory>
+    ensures { IfOk result (λ made. IfSome made (λ lanes. (have_words tests.now ≡ true)
+        × AreLanesOf lanes.order tests.now lanes.windows.items)) }
+{
+    if !have_words(tests) {
+        return Ok(None);
+    }
+    lanes_of(alloc, order, tests)
+}
+
 impl QuickTests {
     // Those of these steps, for senders of that order in the first place.
     pub(crate) fn of_steps(alloc: Global, order: Order, steps: &[Step]) -> Result<Self, Memory>
@@ -90,7 +116,8 @@ impl QuickTests {
             fours: words_in(alloc, 4, list.as_slice())?,
             eights: words_in(alloc, 8, list.as_slice())?,
             numbers: have_words(list.as_slice()),
-            lanes: lanes_of(alloc, order, list.as_slice())?,
+            lanes: mixed_lanes(alloc, order, list.as_slice())?,
+            sole: sole_lanes(alloc, order, list.as_slice())?,
             list,
         })
     }
@@ -117,7 +144,7 @@ impl QuickTests {
         ensures { IsTrue result → All (λ test. IfSome test.words (IsThere at order bytes.now))
             self.now }
     {
-        if let Some(windows) = self.windows_for(order) {
+        if let Some(windows) = self.mixed_for(order) {
             return have_fills(windows, bytes, at);
         }
         self.each_there(bytes, at, order)
@@ -132,21 +159,31 @@ impl QuickTests {
         ensures there { IsTrue result → All (λ test. IfSome test.words (IsThere at order bytes.now))
             self.now }
     {
-        if !self.numbers {
-            return false;
-        }
-        match self.windows_for(order) {
+        match self.sole_for(order) {
             Some(windows) => have_fills(windows, bytes, at),
             None => false,
         }
     }
 
-    // The windows that tell the words of senders of that order, where there are such.
+    // The windows that tell the words of senders of that order, where there are such beside other
+    // tests.
     #[inline(always)]
-    fn windows_for(&self, order: Order) -> Option<&[Window]>
+    fn mixed_for(&self, order: Order) -> Option<&[Window]>
         ensures { IfSome result (λ windows. AreLanesOf order self.now windows.now) }
     {
         match &self.lanes {
+            Some(lanes) if lanes.order == order => Some(lanes.windows.as_slice()),
+            _ => None,
+        }
+    }
+
+    // The same where all tests are of numbers.
+    #[inline(always)]
+    fn sole_for(&self, order: Order) -> Option<&[Window]>
+        ensures numbers { IfSome result (λ _. have_words self.now ≡ true) }
+        ensures lanes { IfSome result (λ windows. AreLanesOf order self.now windows.now) }
+    {
+        match &self.sole {
             Some(lanes) if lanes.order == order => Some(lanes.windows.as_slice()),
             _ => None,
         }

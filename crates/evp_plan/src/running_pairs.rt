@@ -6,7 +6,8 @@ ghost use Rattle.evp_plan.specs.Cells.{painted_at, painted_each, gathered_at, ga
 ghost use Rattle.evp_plan.specs.Pairs.{in_pairs, pair_cells};
 
 use crate::Series;
-use crate::gather::Pair;
+use crate::gather::{Gathers, Pair};
+use crate::running::run_gathers;
 use evp_wide::{gather_two, gather_with_signs};
 
 // Makes sixteen bytes of the record at t from two windows of the sender's at `at`.
@@ -39,6 +40,21 @@ pub(crate) fn run_pairs(pairs: &[Pair], out: &mut [u8], t: usize, from: &[u8], a
     for pair in pairs {
         run_pair(pair, out, t, from, at);
     }
+}
+
+// Runs what stands behind the plain gathers of a record.
+#[inline(always)]
+pub(crate) fn run_behind(gathers: &Gathers, out: &mut [u8], t: usize, from: &[u8], at: usize)
+    requires pairs { All (λ pair. (at + pair.one.at + 16 ≤ length from.now)
+        × ((at + pair.two.at + 16 ≤ length from.now)
+        × (t + pair.one.to + 16 ≤ length out.old))) gathers.now.pairs.items }
+    requires mixed { All (λ gather. (at + gather.at + 16 ≤ length from.now)
+        × (t + gather.to + 16 ≤ length out.old)) gathers.now.mixed.items }
+    ensures { out.new ≡ gathered_at from.now at t gathers.now.mixed.items
+        (gathered_at from.now at t (in_pairs gathers.now.pairs.items) out.old) }
+{
+    run_pairs(gathers.pairs.as_slice(), out, t, from, at);
+    run_gathers(gathers.mixed.as_slice(), false, out, t, from, at);
 }
 
 // Makes sixteen bytes of n records of `out`, each from two windows of one of the sender's records.

@@ -56,10 +56,22 @@ pub fn check<'a>(format: &'a Format, bytes: &'a [u8]) -> Result<Checked<'a>, Bro
     walked(format, bytes)
 }
 
-// The same of bytes that are long enough, by a walk. It stands apart, so that the quick look is all
-// that stands at a call.
-#[inline(never)]
+// The same of bytes that are long enough. The room for a fault of what stands apart is zeroed where
+// the function begins that calls it: with this one between, only where it is called.
+#[inline(always)]
 fn walked<'a>(format: &'a Format, bytes: &'a [u8]) -> Result<Checked<'a>, Broken>
+    requires short { length bytes.now < 2 ^ 32 }
+    requires whole { length_of (root_of format.now) ≤ length bytes.now }
+    ensures held { IfOk result (λ item. item ≡ record_of format.now bytes.now) }
+    ensures viewed { IfOk result (λ _. IsOk (view format.now bytes.now)) }
+    ensures fault { IfErr result (λ fault. view format.now bytes.now ≡ Err fault) }
+{
+    walked_whole(format, bytes)
+}
+
+// The same, by a walk. It stands apart, so that the quick look is all that stands at a call.
+#[inline(never)]
+fn walked_whole<'a>(format: &'a Format, bytes: &'a [u8]) -> Result<Checked<'a>, Broken>
     requires short { length bytes.now < 2 ^ 32 }
     requires whole { length_of (root_of format.now) ≤ length bytes.now }
     ensures held { IfOk result (λ item. item ≡ record_of format.now bytes.now) }

@@ -5,6 +5,7 @@ use Rattle.evp_format.specs.Packing.{Pieces}
 use Rattle.evp_format.specs.Viewing.{Image}
 use Rattle.evp_plan.specs.declared.block.Block.{Block}
 use Rattle.evp_plan.specs.declared.step.Step.{Step}
+use Rattle.evp_plan.specs.Cells.{painted_at}
 use Rattle.evp_plan.specs.Laid.{Laying, IsLaidOf, IsBlockOf}
 use Rattle.evp_plan.specs.Moving.{moved, moved_op}
 use Rattle.evp_plan.specs.Planned.{Planned, machine_in}
@@ -61,3 +62,9 @@ pub record CanLayAll (plan : Planned) (image : Image) (laid : Laying) (total : �
       (length laid.numbers.cells)
   pub reach : laid.numbers.reach ≤ length image.bytes
   pub sized : (all_moved plan image (length laid.numbers.cells)).size ≡ total
+
+-- the fixed part was made over some bytes
+pub record AreNumbersMade (image : Image) (laid : Laying) (out : List ℕ) : Type 0 where
+  pub over : List ℕ
+  pub long : length over ≡ length out
+  pub made : out ≡ painted_at image.bytes 0 0 laid.numbers.cells over

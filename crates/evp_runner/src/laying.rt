@@ -8,19 +8,22 @@ ghost use Rattle.evp_format.specs.Bytes.{next_block, put_at, bytes_at};
 ghost use Rattle.evp_plan.specs.Laid.{width_of, size_of};
 ghost use Rattle.evp_plan.specs.declared.block.Block.TheVariants as block;
 ghost use Rattle.evp_wide.specs.Elements.{rewritten};
-ghost use Rattle.evp_runner.specs.Laying.{AreOrders, CanLay, AreLaid, CanLayAll, all_moved};
+ghost use Rattle.evp_runner.specs.Laying.{AreOrders, CanLay, AreLaid, CanLayAll, AreNumbersMade};
+ghost use Rattle.evp_runner.specs.Laying.{all_moved};
 ghost use Rattle.evp_runner.specs.Pieces.{IsPut};
+ghost use Rattle.evp_runner.specs.Sizing.{image_by_eight};
 ghost use Rattle.evp_runner.specs.StepIn.{image_in};
 
 use crate::moving::Move;
+use crate::sender::{Sender, are_bytes};
 use crate::sizing::aligned;
-use crate::words::{eight_at, four_at};
+use crate::words::{MOST_COUNT, eight_at, four_at};
 use evp_base::Order;
-use evp_plan::{Array, Block, Form, Laid, Text};
+use evp_plan::{Array, Block, Form, Laid, Plan, Text};
 use evp_wide::{put_signed, put_text, put_word};
 
 // The pointer of 8 bytes to the block at q, or 0.
-#[inline(always)]
+#[inline]
 fn point(out: &mut [u8], t: u32, order: Order, q: usize)
     requires { t + 8 ≤ length out.old }
     ensures { out.new ≡ put_at t (digits order 8 (pos q)) out.old }
@@ -155,10 +158,13 @@ fn lay_array(
     ensures { AreLaid work.now.plan.now (image_in work.now.sender) (block.Array array.now) size
         out.old out.new result }
 {
-    let n = four_at(work.sender.bytes, array.count, order)?;
+    let n = four_at(work.sender.bytes, array.count, order);
     if n == 0 {
         point(out, array.to, to_order, 0);
         return Some(size);
+    }
+    if n > MOST_COUNT {
+        return None;
     }
     match array.form {
         Form::TwoToEight => lay_numbers(work, array, order, out, to_order, size, n, 2, 8),
@@ -189,17 +195,17 @@ fn lay_block(
     }
 }
 
-// The whole record, from and to these orders.
+// The blocks behind the fixed part, which was made, from and to orders that the compiler knows.
 #[inline(always)]
-fn lay_by(work: &Move, laid: &Laid, order: Order, out: &mut [u8], to_order: Order) -> bool
+fn lay_blocks_by(work: &Move, laid: &Laid, order: Order, out: &mut [u8], to_order: Order) -> bool
     requires orders { AreOrders work.now.plan.now (image_in work.now.sender) order to_order }
     requires can { CanLayAll work.now.plan.now (image_in work.now.sender) laid.now
         (length out.old) }
+    requires made { AreNumbersMade (image_in work.now.sender) laid.now out.old }
     ensures { IsTrue result → IsPut (all_moved work.now.plan.now (image_in work.now.sender)
         (length laid.now.numbers.cells)) (length out.new) (replicate (length out.new) 0) out.new }
 {
     let numbers = laid.numbers();
-    numbers.run(out, 0, work.sender.bytes, 0);
     let mut size = numbers.length();
     for block in laid.blocks() {
         let Some(end) = lay_block(work, block, order, out, to_order, size) else {
@@ -210,24 +216,54 @@ fn lay_by(work: &Move, laid: &Laid, order: Order, out: &mut [u8], to_order: Orde
     true
 }
 
-/// Makes all of the record, whatever stood there, where each of its blocks is easily laid; else
-/// `out` may be anything. Apart from its callers, which would grow too large to stand in theirs.
-#[inline(never)]
-pub(crate) fn lay(work: &Move, laid: &Laid, out: &mut [u8]) -> bool
-    requires from_pointer { work.now.sender.pointer ≡ 8 }
-    requires to_pointer { work.now.plan.now.pointer ≡ 8 }
+// The same from and to any orders.
+#[inline(always)]
+fn lay_blocks(work: &Move, laid: &Laid, order: Order, out: &mut [u8], to_order: Order) -> bool
+    requires orders { AreOrders work.now.plan.now (image_in work.now.sender) order to_order }
     requires can { CanLayAll work.now.plan.now (image_in work.now.sender) laid.now
         (length out.old) }
+    requires made { AreNumbersMade (image_in work.now.sender) laid.now out.old }
     ensures { IsTrue result → IsPut (all_moved work.now.plan.now (image_in work.now.sender)
         (length laid.now.numbers.cells)) (length out.new) (replicate (length out.new) 0) out.new }
 {
-    if work.sender.bytes.len() < 16 {
+    match (order, to_order) {
+        (Order::Little, Order::Little) => {
+            lay_blocks_by(work, laid, Order::Little, out, Order::Little)
+        }
+        (Order::Little, Order::Big) => lay_blocks_by(work, laid, Order::Little, out, Order::Big),
+        (Order::Big, Order::Little) => lay_blocks_by(work, laid, Order::Big, out, Order::Little),
+        (Order::Big, Order::Big) => lay_blocks_by(work, laid, Order::Big, out, Order::Big),
+    }
+}
+
+/// Makes all of the record, whatever stood there, where each of its blocks is easily laid; else
+/// `out` may be anything. The sender's record has these bytes, numbers of this order and pointers of
+/// 8 bytes. Apart from its callers, which would grow too large to stand in theirs.
+#[inline(never)]
+pub(crate) fn lay<'a>(
+    plan: &'a Plan,
+    laid: &Laid,
+    bytes: &'a [u8],
+    order: Order,
+    out: &mut [u8],
+) -> bool
+    requires short { length bytes.now < 2 ^ 32 }
+    requires to_pointer { plan.now.pointer ≡ 8 }
+    requires can { CanLayAll plan.now (image_by_eight order bytes.now) laid.now (length out.old) }
+    ensures { IsTrue result → IsPut (all_moved plan.now (image_by_eight order bytes.now)
+        (length laid.now.numbers.cells)) (length out.new) (replicate (length out.new) 0) out.new }
+{
+    if bytes.len() < 16 {
         return false;
     }
-    match (work.sender.order, work.plan.order()) {
-        (Order::Little, Order::Little) => lay_by(work, laid, Order::Little, out, Order::Little),
-        (Order::Little, Order::Big) => lay_by(work, laid, Order::Little, out, Order::Big),
-        (Order::Big, Order::Little) => lay_by(work, laid, Order::Big, out, Order::Little),
-        (Order::Big, Order::Big) => lay_by(work, laid, Order::Big, out, Order::Big),
-    }
+    are_bytes(bytes);
+    let sender = Sender {
+        bytes,
+        order,
+        pointer: 8,
+    };
+    let work = Move { plan, sender };
+    let numbers = laid.numbers();
+    numbers.run(out, 0, bytes, 0);
+    lay_blocks(&work, laid, order, out, plan.order())
 }

@@ -46,10 +46,22 @@ pub fn run_quickly(plan: &Plan, item: &Checked, limit: u32) -> Option<PackedByte
     Some(packed_in_place(plan, item.copy(), size))
 }
 
-// The same as `run`, with the place of a fault. Apart from it, since room for a fault is made of
-// zeros first.
-#[inline(never)]
+// The same as `run`, with the place of a fault. Room for a fault is made of zeros where the function
+// begins that calls what stands apart: with this one between, only where it is called.
+#[inline(always)]
 fn run_fully(alloc: Global, plan: &Plan, item: Checked, limit: u32) -> Result<Vec<u8>, RunFault>
+    requires { IsPlanFrom plan.now item.layout }
+    ensures packed { IfOk result (λ bytes. (to : Layout) → StandsFor plan.now item.entry.layout to
+        → IsConversion item.entry to limit bytes.items) }
+    ensures fault { IfErr result (λ fault. (to : Layout) → StandsFor plan.now item.entry.layout to
+        → IsRunFault fault (convert to (value_of item.entry) limit)) }
+{
+    run_whole(alloc, plan, item, limit)
+}
+
+// The same, apart from its callers.
+#[inline(never)]
+fn run_whole(alloc: Global, plan: &Plan, item: Checked, limit: u32) -> Result<Vec<u8>, RunFault>
     requires { IsPlanFrom plan.now item.layout }
     ensures packed { IfOk result (λ bytes. (to : Layout) → StandsFor plan.now item.entry.layout to
         → IsConversion item.entry to limit bytes.items) }
@@ -88,9 +100,26 @@ pub fn pass<'a>(
     }
 }
 
-// The same as `pass`, with the place of a fault.
-#[inline(never)]
+// The same as `pass`, with the place of a fault; between it and what stands apart, as `run_fully`.
+#[inline(always)]
 fn pass_fully<'a>(
+    alloc: Global,
+    plan: &Plan,
+    item: Checked<'a>,
+    limit: u32,
+) -> Result<CowSlice<'a, u8>, RunFault>
+    requires { IsPlanFrom plan.now item.layout }
+    ensures passed { IfOk result (λ bytes. (to : Layout) → StandsFor plan.now item.entry.layout to
+        → IsPassed item.entry to limit bytes) }
+    ensures fault { IfErr result (λ fault. (to : Layout) → StandsFor plan.now item.entry.layout to
+        → IsRunFault fault (convert to (value_of item.entry) limit)) }
+{
+    pass_whole(alloc, plan, item, limit)
+}
+
+// The same, apart from its callers.
+#[inline(never)]
+fn pass_whole<'a>(
     alloc: Global,
     plan: &Plan,
     item: Checked<'a>,

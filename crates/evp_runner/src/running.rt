@@ -226,8 +226,7 @@ pub(crate) fn run_over(plan: &Plan, item: Checked, out: &mut [u8], is_zero: bool
         }
     }
     if let Some(laid) = plan.laid(sender.order, sender.pointer, sender.bytes.len()) {
-        let work = Move { plan, sender };
-        if lay(&work, laid, out) {
+        if lay(plan, laid, sender.bytes, sender.order, out) {
             return;
         }
         run_steps(plan, item.format(), item.bytes(), out, false);

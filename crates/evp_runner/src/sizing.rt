@@ -8,7 +8,7 @@ ghost use Rattle.evp_plan.specs.Standing.{text_by};
 ghost use Rattle.evp_runner.specs.Sizing.{image_by_eight, IsBlockInside, text_end, numbers_end};
 ghost use Rattle.evp_runner.specs.Sizing.{count_of, EndsAt, AllEndAt};
 
-use crate::words::{eight_at, four_at};
+use crate::words::{MOST_COUNT, eight_at, four_at};
 use evp_base::Order;
 use evp_plan::{Array, Block, Form, Text};
 use evp_wide::near_zero;
@@ -67,9 +67,12 @@ fn size_of_array(bytes: &[u8], array: &Array, order: Order, size: usize) -> Opti
     ensures more { IfSome result (λ end. size ≤ end) }
     ensures bound { IfSome result (λ end. end ≤ size + 2 ^ 35) }
 {
-    let n = four_at(bytes, array.count, order)?;
+    let n = four_at(bytes, array.count, order);
     if n == 0 {
         return Some(size);
+    }
+    if n > MOST_COUNT {
+        return None;
     }
     Some(aligned(size) + n * number_size(array.form))
 }

@@ -1,6 +1,6 @@
 //! Words of a sender's record whose sizes the compiler knows.
 
-ghost use Rattle.std.specs.Prelude.{◌≡◌, ◌+◌, ◌≤◌, ◌<◌, ◌^◌, length, IfSome};
+ghost use Rattle.std.specs.Prelude.{◌≡◌, ◌+◌, ◌≤◌, length};
 ghost use Rattle.evp_base.specs.Numbers.{magnitude};
 ghost use Rattle.evp_format.specs.Bytes.{bytes_at};
 
@@ -8,7 +8,7 @@ use evp_base::Order;
 use evp_wide::get_word;
 
 /// The pointer of 8 bytes that stands at s.
-#[inline(always)]
+#[inline]
 pub(crate) fn eight_at(bytes: &[u8], s: u32, order: Order) -> usize
     requires { s + 8 ≤ length bytes.now }
     ensures { result ≡ magnitude order (bytes_at s 8 bytes.now) }
@@ -17,17 +17,15 @@ pub(crate) fn eight_at(bytes: &[u8], s: u32, order: Order) -> usize
     get_word(&bytes[s..s + 8], order) as usize
 }
 
-/// The count of 4 bytes that stands at s, where it isn't so great that it could be one below 0.
-#[inline(always)]
-pub(crate) fn four_at(bytes: &[u8], s: u32, order: Order) -> Option<usize>
+/// The greatest count of 4 bytes that can't be one below 0.
+pub(crate) const MOST_COUNT: usize = 0x7fff_ffff;
+
+/// The count of 4 bytes that stands at s, as if it couldn't be below 0.
+#[inline]
+pub(crate) fn four_at(bytes: &[u8], s: u32, order: Order) -> usize
     requires { s + 4 ≤ length bytes.now }
-    ensures value { IfSome result (λ n. n ≡ magnitude order (bytes_at s 4 bytes.now)) }
-    ensures small { IfSome result (λ n. n < 2 ^ 31) }
+    ensures { result ≡ magnitude order (bytes_at s 4 bytes.now) }
 {
     let s = s as usize;
-    let n = get_word(&bytes[s..s + 4], order) as usize;
-    if n > 0x7fff_ffff {
-        return None;
-    }
-    Some(n)
+    get_word(&bytes[s..s + 4], order) as usize
 }

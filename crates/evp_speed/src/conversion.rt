@@ -1,16 +1,16 @@
 //! Conversions of records by a plan.
 
 ghost use Rattle.std.specs.Prelude.{◌≡◌, ◌↔◌, IsTrue, IfOk, IfSome};
-ghost use Rattle.evp_plan.specs.Planned.{IsPlanFrom, StandsFor};
+ghost use Rattle.evp_plan.specs.Planned.{StandsFor};
 ghost use Rattle.evp_record.specs.Record.{record_of};
 ghost use Rattle.evp_speed.specs.Pairs.{AreOf};
 
+use crate::way::Way;
 use anyhow::{Result, bail};
 use evp_format::Format;
 use evp_plain::{convert_plainly, format_of};
 use evp_plan::{BuildFault, Builds, Plan, build};
 use evp_record::{Checked, check};
-use evp_runner::{measure, pass, run, run_into};
 use evp_value::SlowFault;
 use std::alloc::{AllocError, Global};
 use std::borrow::CowSlice;
@@ -75,22 +75,10 @@ pub fn legal<'a>(format: &'a Format, bytes: &'a [u8]) -> Option<Checked<'a>>
     check(format, bytes).ok()
 }
 
-/// How the converted bytes come to be.
-#[derive(Clone, Copy)]
-pub enum Way {
-    /// Measured, and written into a buffer that is used again.
-    Into,
-    /// In a buffer of their own.
-    Own,
-    /// Lent, where the formats are equal.
-    Lent,
-}
-
-/// A plan for two formats, and the way in which it is used.
+/// A plan for two formats.
 #[derive(Clone, Copy)]
 pub struct Method<'a> {
     pub alloc: Global,
-    pub way: Way,
     pub plan: &'a Plan,
     pub from: &'a Format,
     pub to: &'a Format,
@@ -101,48 +89,32 @@ impl<'a> Method<'a> {
     /// doesn't fit.
     #[inline(always)]
     #[tactic(auto, using(crate::proofs::Plans::plan_from))]
-    pub fn convert<'b>(
+    pub fn convert<'b, W: Way>(
         &self,
-        way: Way,
+        way: &W,
         item: Checked<'b>,
         out: &'b mut [u8],
     ) -> Option<CowSlice<'b, u8>>
         requires plan { StandsFor self.now.plan.now self.now.from.now self.now.to.now }
         requires of { item.layout ≡ self.now.from.now }
     {
-        self.converted(way, item, out)
+        way.convert(self.alloc, self.plan, item, out)
     }
 
-    // The same, where the plan is one for the record.
+    /// How many bytes the record is converted to; 0 where it doesn't fit.
     #[inline(always)]
-    fn converted<'b>(
-        &self,
-        way: Way,
-        item: Checked<'b>,
-        out: &'b mut [u8],
-    ) -> Option<CowSlice<'b, u8>>
-        requires { IsPlanFrom self.now.plan.now item.layout }
+    pub fn size<W: Way>(&self, way: &W, item: Checked, out: &mut [u8]) -> usize
+        requires plan { StandsFor self.now.plan.now self.now.from.now self.now.to.now }
+        requires of { item.layout ≡ self.now.from.now }
     {
-        match way {
-            Way::Into => {
-                let size = measure(self.plan, item.copy(), LIMIT).ok()? as usize;
-                if size > out.len() {
-                    return None;
-                }
-                let out = &mut out[..size];
-                run_into(self.plan, item, out);
-                Some(CowSlice::Borrowed(out))
-            }
-            Way::Own => match run(self.alloc, self.plan, item, LIMIT) {
-                Ok(bytes) => Some(CowSlice::Owned(bytes)),
-                Err(_) => None,
-            },
-            Way::Lent => pass(self.alloc, self.plan, item, LIMIT).ok(),
+        match self.convert(way, item, out) {
+            Some(made) => made.as_slice().len(),
+            None => 0,
         }
     }
 
     /// Whether the converted bytes are those that the record's value is converted to.
-    pub fn agrees(&self, item: Checked, out: &mut [u8]) -> Result<bool, AllocError>
+    pub fn agrees<W: Way>(&self, way: &W, item: Checked, out: &mut [u8]) -> Result<bool, AllocError>
         requires plan { StandsFor self.now.plan.now self.now.from.now self.now.to.now }
         requires of { item.layout ≡ self.now.from.now }
     {
@@ -151,7 +123,7 @@ impl<'a> Method<'a> {
             Err(SlowFault::Memory) => return Err(AllocError),
             Err(_) => return Ok(false),
         };
-        match self.convert(self.way, item, out) {
+        match self.convert(way, item, out) {
             None => Ok(false),
             Some(bytes) => Ok(are_same(bytes.as_slice(), &plain)),
         }

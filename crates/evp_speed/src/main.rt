@@ -38,12 +38,13 @@ mod settable;
 mod several;
 mod step;
 mod timing;
+mod way;
 mod workload;
 
 use actions::Monitoring;
 use acts::Acts;
 use anyhow::Result;
-use conversion::{Method, Pair, Way, checked};
+use conversion::{Method, Pair, checked};
 use conversions::{Ready, Whole};
 use evaluation::Evaluation;
 use evp_action::Action;
@@ -51,6 +52,7 @@ use expressions::Expression;
 use queue_alone::Alone;
 use std::env;
 use timing::best;
+use way::{Lent, Own, Reused, Way};
 use workload::Workload;
 
 fn main(rt: HostRuntime) -> Result<()> {
@@ -101,39 +103,39 @@ fn tell_conversions(rt: &HostRuntime, timed: bool) -> Result<()> {
 fn tell_numbers(rt: &HostRuntime, timed: bool) -> Result<()> {
     let alloc = rt.alloc();
     let swapped = convert_numbers::swapped(alloc)?;
-    tell_ready(rt, timed, "A", Way::Into, &swapped)?;
-    tell_whole(rt, timed, "A_whole", Way::Own, &swapped)?;
+    tell_ready(rt, timed, "A", Reused, &swapped)?;
+    tell_whole(rt, timed, "A_whole", Own, &swapped)?;
     let resized = convert_numbers::resized(alloc)?;
-    tell_ready(rt, timed, "B", Way::Into, &resized)?;
-    tell_whole(rt, timed, "B_whole", Way::Own, &resized)
+    tell_ready(rt, timed, "B", Reused, &resized)?;
+    tell_whole(rt, timed, "B_whole", Own, &resized)
 }
 
 fn tell_lists_and_texts(rt: &HostRuntime, timed: bool) -> Result<()> {
     let alloc = rt.alloc();
     let numbers = convert_lists::numbers(alloc)?;
-    tell_ready(rt, timed, "C", Way::Into, &numbers)?;
-    tell_whole(rt, timed, "C_whole", Way::Own, &numbers)?;
+    tell_ready(rt, timed, "C", Reused, &numbers)?;
+    tell_whole(rt, timed, "C_whole", Own, &numbers)?;
     let texts = convert_lists::texts(alloc)?;
-    tell_whole(rt, timed, "D", Way::Into, &texts)?;
-    tell_whole(rt, timed, "D_whole", Way::Own, &texts)
+    tell_whole(rt, timed, "D", Reused, &texts)?;
+    tell_whole(rt, timed, "D_whole", Own, &texts)
 }
 
 fn tell_alike_and_records(rt: &HostRuntime, timed: bool) -> Result<()> {
     let alloc = rt.alloc();
     let alike = convert_numbers::alike(alloc)?;
-    tell_ready(rt, timed, "E", Way::Lent, &alike)?;
-    tell_whole(rt, timed, "E_whole", Way::Lent, &alike)?;
+    tell_ready(rt, timed, "E", Lent, &alike)?;
+    tell_whole(rt, timed, "E_whole", Lent, &alike)?;
     let records = convert_lists::records(alloc)?;
-    tell_whole(rt, timed, "F", Way::Into, &records)?;
-    tell_whole(rt, timed, "F_whole", Way::Own, &records)
+    tell_whole(rt, timed, "F", Reused, &records)?;
+    tell_whole(rt, timed, "F_whole", Own, &records)
 }
 
 // Converts the pair's records, which are checked before.
-fn tell_ready(
+fn tell_ready<W: Way + Drop>(
     rt: &HostRuntime,
     timed: bool,
     name: &'static str,
-    way: Way,
+    way: W,
     pair: &Pair,
 ) -> Result<()>
     requires { StandsFor pair.now.plan pair.now.from pair.now.to }
@@ -141,9 +143,9 @@ fn tell_ready(
     let alloc = rt.alloc();
     let ready = Ready {
         name,
+        way,
         method: Method {
             alloc,
-            way,
             plan: &pair.plan,
             from: &pair.from,
             to: &pair.to,
@@ -154,11 +156,11 @@ fn tell_ready(
 }
 
 // Checks and converts the pair's records.
-fn tell_whole(
+fn tell_whole<W: Way + Drop>(
     rt: &HostRuntime,
     timed: bool,
     name: &'static str,
-    way: Way,
+    way: W,
     pair: &Pair,
 ) -> Result<()>
     requires { StandsFor pair.now.plan pair.now.from pair.now.to }
@@ -166,9 +168,9 @@ fn tell_whole(
     let alloc = rt.alloc();
     let whole = Whole {
         name,
+        way,
         method: Method {
             alloc,
-            way,
             plan: &pair.plan,
             from: &pair.from,
             to: &pair.to,

@@ -1,15 +1,17 @@
 -- Whether lanes are the signs of other lanes.
-use Rattle.std.proofs.Common.{◌≡◌, ℕ, suc, ◌+◌, ◌*◌, ◌^◌, ◌%◌, ◌↔◌, IsTrue, Bool, true, false, cond, eqb, List, [], ◌∷◌, length}
-use Rattle.std.proofs.Common.{take, map, refl, sym, ap, ◌∙◌, subst, w8, arith}
-use Rattle.std.specs.Prelude.{replicate}
+use Rattle.std.proofs.Common.{◌≡◌, ℕ, zero, suc, ◌+◌, ◌*◌, ◌^◌, ◌%◌, ◌↔◌, IsTrue, Bool, true, false, cond, eqb, List, [], ◌∷◌, length}
+use Rattle.std.proofs.Common.{drop, get_or, map, take, refl, sym, ap, ◌∙◌, w8, arith}
+use Rattle.std.specs.Prelude.{replicate, bit_or, bit_xor}
+use Rattle.std.specs.Int.Bits.{xor_self, xor_add_and}
 use Rattle.std.proofs.Math.Nat.{pow-suc}
 use Rattle.std.proofs.lemmas.Bool.{eqb-true, eq-eqb}
-use Rattle.std.proofs.lemmas.List.{length-map}
+use Rattle.std.proofs.lemmas.List.{length-map, length-replicate}
+use Rattle.std.proofs.lemmas.Nat.{and_le_l, and_le_r, le_or_l, le_or_r}
 use Rattle.std.proofs.lemmas.Simd.{swz_l, length-zip2, mask_l-mod, tops_compared}
 use lib.Lanes.{zip2, sel_l, mask_l, top}
 use Rattle.evp_wide.specs.Gathered.{picked, gathered, sign_byte, signs_gathered, ArePlaces}
 use Rattle.evp_wide.proofs.Gathers.{shuffled}
-use Rattle.evp_wide.proofs.Signs.{compared, signs_chosen}
+use Rattle.evp_wide.proofs.Signs.{compared, signs_are}
 
 -- lanes that are equal set all bits
 all_set : (xs : List ℕ) → suc (mask_l (zip2 eqb xs xs)) ≡ 2 ^ length xs
@@ -55,20 +57,94 @@ all_equal xs ys long also = (
       eq-eqb _ 65535 (bits_are xs ys long also ∙ omega (arith, full)),
 )
 
--- whether the bytes that one mask picks are the signs of those that the other picks
-pub filled : (bytes picks places : List ℕ) → length picks ≡ 16 → ArePlaces picks → length places ≡ 16 → ArePlaces places
-    → IsTrue (eqb (mask_l (map (top 7) (zip2 (λ a b. cond (eqb a b) 255 0) (swz_l w8 16 (take 16 bytes) 0 picks)
-    (sel_l (compared (swz_l w8 16 (take 16 bytes) 0 places)) (replicate 16 0) (replicate 16 255)))) % 18446744073709551616) 65535)
-    ↔ (gathered picks bytes ≡ signs_gathered places bytes)
-filled bytes picks places picks_long are_picks long are =
-    let Test : List ℕ → List ℕ → Type 0 = λ xs ys.
-    IsTrue (eqb (mask_l (map (top 7) (zip2 (λ a b. cond (eqb a b) 255 0) xs ys)) % 18446744073709551616) 65535)
-    ↔ (gathered picks bytes ≡ signs_gathered places bytes) in
-    let lanes_long : length (gathered places bytes) ≡ 16 = length-map places (picked bytes) ∙ long in
-    let all = all_equal (gathered picks bytes) (signs_gathered places bytes) (length-map picks (picked bytes) ∙ picks_long)
-    (length-map (gathered places bytes) sign_byte ∙ lanes_long) in
-    let signed = ap (λ (l : List ℕ). sel_l (compared l) (replicate 16 0) (replicate 16 255)) (shuffled bytes places long are)
-    ∙ signs_chosen (gathered places bytes) lanes_long in
-    subst (λ (xs : List ℕ). Test xs (sel_l (compared (swz_l w8 16 (take 16 bytes) 0 places)) (replicate 16 0) (replicate 16 255)))
-    (sym (shuffled bytes picks picks_long are_picks))
-    (subst (Test (gathered picks bytes)) (sym signed) all)
+-- ---- lanes that differ in no bit
+
+same_lane : (a b : ℕ) → bit_xor a b ≡ 0 → a ≡ b
+same_lane a b none = let both = xor_add_and a b in omega (arith, none, both, and_le_l a b, and_le_r a b)
+
+none_differ : (xs : List ℕ) → zip2 bit_xor xs xs ≡ replicate (length xs) 0
+none_differ [] = refl
+none_differ (x ∷ xs) = λ i. xor_self x i ∷ none_differ xs i
+
+differ_none : (xs ys : List ℕ) → length xs ≡ length ys → zip2 bit_xor xs ys ≡ replicate (length xs) 0 → xs ≡ ys
+differ_none [] [] same none = refl
+differ_none [] (y ∷ ys) same none = cc
+differ_none (x ∷ xs) [] same none = cc
+differ_none (x ∷ xs) (y ∷ ys) same none =
+    let first = same_lane x y (ap (λ (l : List ℕ). get_or l 0 0) none) in
+    let others = differ_none xs ys (omega (arith, same)) (ap (drop 1) none) in
+    λ i. first i ∷ others i
+
+none_of_either : (n : ℕ) → zip2 bit_or (replicate n 0) (replicate n 0) ≡ replicate n 0
+none_of_either zero = refl
+none_of_either (suc n) = ap (λ (l : List ℕ). 0 ∷ l) (none_of_either n)
+
+either_none : (n : ℕ) (xs ys : List ℕ) → length xs ≡ n → length ys ≡ n → zip2 bit_or xs ys ≡ replicate n 0
+    → (xs ≡ replicate n 0) × (ys ≡ replicate n 0)
+either_none zero [] [] long also none = (refl, refl)
+either_none zero (x ∷ xs) ys long also none = cc
+either_none zero [] (y ∷ ys) long also none = cc
+either_none (suc n) [] ys long also none = cc
+either_none (suc n) (x ∷ xs) [] long also none = cc
+either_none (suc n) (x ∷ xs) (y ∷ ys) long also none =
+    let first = ap (λ (l : List ℕ). get_or l 0 0) none in
+    let others = either_none n xs ys (omega (arith, long)) (omega (arith, also)) (ap (drop 1) none) in
+    let one : x ≡ 0 = omega (arith, first, le_or_l x y) in
+    let two : y ≡ 0 = omega (arith, first, le_or_r x y) in
+    (λ i. one i ∷ others.0 i, λ i. two i ∷ others.1 i)
+
+-- the test that all of these lanes are 0
+abbrev IsNone : List ℕ → Type 0
+IsNone lanes =
+    IsTrue (eqb (mask_l (map (top 7) (zip2 (λ a b. cond (eqb a b) 255 0) lanes (replicate 16 0))) % 18446744073709551616) 65535)
+
+differences_none : (bytes signs bits : List ℕ) → length bytes ≡ 16 → length signs ≡ 16 → bits ≡ zip2 bit_xor bytes signs
+    → (bits ≡ replicate 16 0) ↔ (bytes ≡ signs)
+differences_none bytes signs bits long also is =
+    let zeros : replicate (length bytes) 0 ≡ replicate 16 0 = ap (λ (n : ℕ). replicate n 0) long in (
+      λ none. differ_none bytes signs (long ∙ sym also) (sym is ∙ none ∙ sym zeros),
+      λ same. is ∙ ap (zip2 bit_xor bytes) (sym same) ∙ none_differ bytes ∙ zeros,
+    )
+
+-- whether sixteen bytes are sixteen others, by the bits in which they differ
+pub filled : (bytes signs bits : List ℕ) → length bytes ≡ 16 → length signs ≡ 16 → bits ≡ zip2 bit_xor bytes signs
+    → IsNone bits ↔ (bytes ≡ signs)
+filled bytes signs bits long also is =
+    let all = all_equal bits (replicate 16 0) (ap length is ∙ length-zip2 bit_xor bytes signs (long ∙ sym also) ∙ long)
+    (length-replicate {A = ℕ} 16 0) in
+    let none = differences_none bytes signs bits long also is in
+    (λ set. none.0 (all.0 set), λ same. all.1 (none.1 same))
+
+-- the same of two times sixteen at once
+pub both_filled : (bytes signs bits bytes' signs' bits' : List ℕ) → length bytes ≡ 16 → length signs ≡ 16
+    → bits ≡ zip2 bit_xor bytes signs → length bytes' ≡ 16 → length signs' ≡ 16 → bits' ≡ zip2 bit_xor bytes' signs'
+    → IsNone (zip2 bit_or bits bits') ↔ ((bytes ≡ signs) × (bytes' ≡ signs'))
+both_filled bytes signs bits bytes' signs' bits' long also is long' also' is' =
+    let sixteen : length bits ≡ 16 = ap length is ∙ length-zip2 bit_xor bytes signs (long ∙ sym also) ∙ long in
+    let sixteen' : length bits' ≡ 16 = ap length is' ∙ length-zip2 bit_xor bytes' signs' (long' ∙ sym also') ∙ long' in
+    let all = all_equal (zip2 bit_or bits bits') (replicate 16 0) (length-zip2 bit_or bits bits' (sixteen ∙ sym sixteen') ∙ sixteen)
+    (length-replicate {A = ℕ} 16 0) in
+    let none = differences_none bytes signs bits long also is in
+    let none' = differences_none bytes' signs' bits' long' also' is' in (
+      λ set. let both = either_none 16 bits bits' sixteen sixteen' (all.0 set) in (none.0 both.0, none'.0 both.1),
+      λ same. all.1 (ap (λ (l : List ℕ). zip2 bit_or l bits') (none.1 same.0)
+          ∙ ap (zip2 bit_or (replicate 16 0)) (none'.1 same.1) ∙ none_of_either 16),
+    )
+
+-- ---- what the masks pick
+
+pub gathered_long : (mask bytes : List ℕ) → length mask ≡ 16 → length (gathered mask bytes) ≡ 16
+gathered_long mask bytes long = length-map mask (picked bytes) ∙ long
+
+pub signs_long : (mask bytes : List ℕ) → length mask ≡ 16 → length (signs_gathered mask bytes) ≡ 16
+signs_long mask bytes long = length-map (gathered mask bytes) sign_byte ∙ gathered_long mask bytes long
+
+-- the bits in which the bytes that one mask picks differ from the signs of those that the other picks
+pub differing : (bytes picks places : List ℕ) → length picks ≡ 16 → ArePlaces picks → length places ≡ 16 → ArePlaces places
+    → zip2 bit_xor (swz_l w8 16 (take 16 bytes) 0 picks)
+    (sel_l (compared (swz_l w8 16 (take 16 bytes) 0 places)) (replicate 16 0) (replicate 16 255))
+    ≡ zip2 bit_xor (gathered picks bytes) (signs_gathered places bytes)
+differing bytes picks places picks_long are_picks long are =
+    ap (λ (l : List ℕ). zip2 bit_xor l (sel_l (compared (swz_l w8 16 (take 16 bytes) 0 places)) (replicate 16 0) (replicate 16 255)))
+    (shuffled bytes picks picks_long are_picks)
+    ∙ ap (zip2 bit_xor (gathered picks bytes)) (signs_are bytes places long are)

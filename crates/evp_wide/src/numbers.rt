@@ -216,8 +216,10 @@ fn put_fours(
     }
 }
 
-// The same of four numbers, which are read before any is written.
-#[inline(always)]
+// The same of four numbers, which are read before any is written. Its callers would grow too large
+// to stand in theirs by all the sizes that it has, so that it is for the compiler to see which one
+// is meant.
+#[inline]
 fn put_four(
     out: &mut [u8],
     to: usize,
@@ -245,7 +247,7 @@ fn put_four(
 }
 
 // The same one by one.
-#[inline(always)]
+#[inline]
 fn put_few(
     out: &mut [u8],
     to: usize,

@@ -239,6 +239,38 @@ fn fills_are_signs(rt: HostRuntime) -> Result<(), Fail> {
 }
 
 #[test]
+fn fills_of_two_windows_are_signs(rt: HostRuntime) -> Result<(), Fail> {
+    // 127 and 128 in two bytes, the lowest first
+    let from = [
+        0x7f, 0, 0x80, 0, 0, 0, 0, 0, 0, 0, 0, 0, 0, 0, 0, 0, 0, 1, 0, 0,
+    ];
+    // the byte behind the window's first is the sign of that
+    let picks = Mask {
+        places: [
+            1, 128, 128, 128, 128, 128, 128, 128, 128, 128, 128, 128, 128, 128, 128, 128,
+        ],
+    };
+    let signs = Mask {
+        places: [
+            0, 128, 128, 128, 128, 128, 128, 128, 128, 128, 128, 128, 128, 128, 128, 128,
+        ],
+    };
+    // the window's last byte is 0
+    let none = Mask { places: [128; 16] };
+    let last = Mask {
+        places: [
+            128, 128, 128, 128, 128, 128, 128, 128, 128, 128, 128, 128, 128, 128, 128, 15,
+        ],
+    };
+    let both = are_both_fills(&from, 0, &picks, &signs, 1, &last, &none);
+    let second = are_both_fills(&from, 2, &picks, &signs, 1, &last, &none);
+    let first = are_both_fills(&from, 0, &picks, &signs, 2, &last, &none);
+    let neither = are_both_fills(&from, 2, &picks, &signs, 2, &last, &none);
+    assert_eq!(rt; (both, second, first, neither), (true, false, false, false));
+    Ok(())
+}
+
+#[test]
 fn the_first_zero_byte_is_found(rt: HostRuntime) -> Result<(), Fail> {
     let mut bytes = [7; 40];
     assert_eq!(rt; zero_at(&bytes), None);

@@ -1,9 +1,14 @@
-use Rattle.std.proofs.Common.{◌≡◌, ℕ, ◌-◌, List, length, refl, arith, subst}
+use Rattle.std.proofs.Common.{◌≡◌, ℕ, ◌-◌, List, length, refl, sym, ap, arith, subst}
 use Rattle.std.specs.Prelude.{replicate}
 use Rattle.evp_format.specs.Layout.{Layout}
+use Rattle.evp_format.specs.Viewing.{Image}
 use Rattle.evp_plan.specs.Planned.{Planned}
 use Rattle.evp_record.specs.Record.{Record, record_of}
+use Rattle.evp_runner.specs.declared.sender.Sender.{Sender}
+use Rattle.evp_runner.specs.Laying.{CanLayAll, all_moved}
+use Rattle.evp_runner.specs.Pieces.{IsPut}
 use Rattle.evp_runner.specs.Running.{AreConverted}
+use Rattle.evp_runner.specs.Sizing.{image_by_eight}
 use Rattle.evp_runner.specs.StepIn.{image_in}
 use Rattle.evp_runner.proofs.Painting.{paints_all, all_reach, all_put}
 use Rattle.evp_runner.proofs.LaidRecords.{can_lay_all, laid_converted}
@@ -17,6 +22,10 @@ of_parts plan held layout bytes new layout_is bytes_are made =
     let Layouts : Layout → Type 0 = λ l. AreConverted plan (record_of l bytes) new in
     let Bytes : List ℕ → Type 0 = λ b. AreConverted plan (record_of held.layout b) new in
     subst Bytes bytes_are (subst Layouts layout_is made)
+
+-- a record with pointers of 8 bytes by its order alone
+by_eight : (sender : Sender) → sender.pointer ≡ 8 → image_in sender ≡ image_by_eight sender.order sender.bytes.now
+by_eight sender eight = ap (λ (p : ℕ). record { order = sender.order; pointer = p; bytes = sender.bytes.now }) eight
 
 pub run-requires-clause-reach : goal.run-requires-clause-reach
 run-requires-clause-reach c =
@@ -46,16 +55,25 @@ returns-then-length-out c =
 pub lay-requires-clause-can : goal.lay-requires-clause-can
 lay-requires-clause-can c =
     let e = c.in-Some-laid.ensures in
-    can_lay_all c.args.plan.now c.args.item c.requires.plan_from.to (image_in c.sender_of-sender.result) c.in-Some-laid.laid.now
+    let sender = c.sender_of-sender.result in
+    let Can : Image → Type 0 = λ i. CanLayAll c.args.plan.now i c.in-Some-laid.laid.now (length c.args.out.now) in
+    subst Can (by_eight sender e.sender)
+    (can_lay_all c.args.plan.now c.args.item c.requires.plan_from.to (image_in sender) c.in-Some-laid.laid.now
     (length c.args.out.now) c.requires.plan_from.stands c.bytes-held.ensures.kept c.requires.size c.sender_of-sender.ensures
-    e.ordered e.some e.laid e.fixed e.reach
+    e.ordered e.some e.laid e.fixed e.reach)
 
 pub returns-then-lay : goal.returns-then-lay
 returns-then-lay c =
     let e = c.in-Some-laid.ensures in
-    laid_converted c.args.plan.now c.args.item c.requires.plan_from.to (image_in c.sender_of-sender.result) c.in-Some-laid.laid.now
-    (length c.args.out.now) c.lay.new.out c.requires.plan_from.stands c.bytes-held.ensures.kept c.requires.size
-    c.sender_of-sender.ensures e.ordered e.some e.fixed c.lay.auto.out (c.lay.ensures c.if-lay.true)
+    let sender = c.sender_of-sender.result in
+    let laid = c.in-Some-laid.laid.now in
+    let new = c.lay.new.out in
+    let Put : Image → Type 0 = λ i. IsPut (all_moved c.args.plan.now i (length laid.numbers.cells)) (length new)
+    (replicate (length new) 0) new in
+    laid_converted c.args.plan.now c.args.item c.requires.plan_from.to (image_in sender) laid
+    (length c.args.out.now) new c.requires.plan_from.stands c.bytes-held.ensures.kept c.requires.size
+    c.sender_of-sender.ensures e.ordered e.some e.fixed c.lay.auto.out
+    (subst Put (sym (by_eight sender e.sender)) (c.lay.ensures c.if-lay.true))
 
 pub returns-in-Some-laid : goal.returns-in-Some-laid
 returns-in-Some-laid c = of_parts c.args.plan.now c.args.item c.format.result.now c.bytes.result.now c.run_steps.new.out

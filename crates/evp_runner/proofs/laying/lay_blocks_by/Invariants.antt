@@ -1,6 +1,6 @@
 use Rattle.evp_runner.specs.StepIn.{image_in}
 use Rattle.evp_runner.proofs.LaidLoop.{AreLaidSoFar}
-use Rattle.evp_runner.proofs.laying.lay_by.Given as goal
+use Rattle.evp_runner.proofs.laying.lay_blocks_by.Given as goal
 
 abbrev pub invariant-loop-block : goal.invariant-loop-block
 invariant-loop-block l =

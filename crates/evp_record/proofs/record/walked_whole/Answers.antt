@@ -6,8 +6,8 @@ use Rattle.evp_format.specs.Viewing.{view, view_tree, image_of}
 use Rattle.evp_record.specs.Record.{Record}
 use Rattle.evp_format.proofs.LaidBases.{root_length}
 use Rattle.evp_record.proofs.Viewed.{view-walked, root_mark, viewed-marked, viewed-unmarked}
-use Rattle.evp_record.proofs.record.walked.Goals as goal
-use Rattle.evp_record.proofs.record.walked.Goals.{Else-is_none}
+use Rattle.evp_record.proofs.record.walked_whole.Goals as goal
+use Rattle.evp_record.proofs.record.walked_whole.Goals.{Else-is_none}
 
 pub record-end-requires-clause-inside : goal.record-end-requires-clause-inside
 record-end-requires-clause-inside c =

@@ -15,8 +15,3 @@ mod transforming;
 pub use acted::{Acted, Reason, To};
 pub use acting::act;
 pub use action::{Action, Setting};
-
-#[cfg(test)]
-mod tests;
-#[cfg(test)]
-mod tests_transform;

@@ -11,8 +11,6 @@ mod number;
 mod order;
 mod quoted;
 mod step;
-#[cfg(test)]
-mod tests;
 
 pub use escaped::Escaped;
 pub use field_path::FieldPath;

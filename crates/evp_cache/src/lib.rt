@@ -11,6 +11,3 @@ mod plan_cache;
 pub use cache_pass::CachePass;
 pub use found::Found;
 pub use plan_cache::PlanCache;
-
-#[cfg(test)]
-mod tests;

@@ -8,6 +8,3 @@ mod reach;
 mod world;
 
 pub use world::World;
-
-#[cfg(test)]
-mod tests;

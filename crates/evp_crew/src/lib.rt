@@ -16,8 +16,6 @@ mod rota;
 mod rule;
 mod seat;
 mod seating;
-#[cfg(test)]
-mod tests;
 mod three;
 mod visiting;
 mod ways;

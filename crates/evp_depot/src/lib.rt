@@ -19,6 +19,3 @@ pub use reading::{Fetch, read_all};
 pub use sink::{Sink, SinkFault};
 pub use std_sink::StdSink;
 pub use writing::{PutFault, write_all};
-
-#[cfg(test)]
-mod tests;

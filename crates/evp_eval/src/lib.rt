@@ -14,8 +14,3 @@ mod stack;
 
 pub use bound::{Bound, bind, eval};
 pub use fault::{BindFault, EvalFault};
-
-#[cfg(test)]
-mod sample_records;
-#[cfg(test)]
-mod tests;

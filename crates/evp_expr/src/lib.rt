@@ -24,6 +24,3 @@ pub use quoted_text::QuotedText;
 pub use theorems::{
     each_text_is_answered, one_fault, one_tree, reads_back, tree_or_fault, trees_are_sound,
 };
-
-#[cfg(test)]
-mod tests;

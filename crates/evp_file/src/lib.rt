@@ -16,6 +16,3 @@ pub use file::{
 pub use laws::{files_are_exact, files_read_back};
 pub use reading::read_file;
 pub use writing::{begin_file, end_file, put_record, write_file};
-
-#[cfg(test)]
-mod tests;

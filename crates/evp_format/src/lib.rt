@@ -42,6 +42,3 @@ pub use place::{Place, PlaceStep};
 pub use record_type::{Fields, RecordType};
 pub use types_so_far::TypesSoFar;
 pub use value::{Items, Members, TextBytes, Value};
-
-#[cfg(test)]
-mod tests;

@@ -14,6 +14,3 @@ mod tags;
 
 pub use laws::{sent_is_read, sent_is_short};
 pub use made::{Made, make, make_file, make_job};
-
-#[cfg(test)]
-mod tests;

@@ -8,8 +8,6 @@ mod numbers;
 mod places;
 mod route;
 mod search;
-#[cfg(test)]
-mod tests;
 mod turn;
 
 pub use fault::{GraphFault, RouteFault};

@@ -31,18 +31,3 @@ pub use fill::fill_job;
 pub use job::{ReadJob, read_job};
 pub use job_text::JobText;
 pub use sources::SourceText;
-
-#[cfg(test)]
-mod documents;
-#[cfg(test)]
-mod fill_tests;
-#[cfg(test)]
-mod tests;
-#[cfg(test)]
-mod tests_defaults;
-#[cfg(test)]
-mod tests_limits;
-#[cfg(test)]
-mod tests_order;
-#[cfg(test)]
-mod tests_stones;

@@ -44,6 +44,3 @@ pub use quick_tests::QuickTests;
 pub use series::Series;
 pub use step::{Elements, Op, Origin, Part, Run, Source, Step, Steps, Task};
 pub use words::Words;
-
-#[cfg(test)]
-mod tests;

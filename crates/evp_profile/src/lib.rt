@@ -14,6 +14,3 @@ pub use declaration::{Decl, TypeDecl};
 pub use laws::layouts_are_exact;
 pub use laying_out::lay_out;
 pub use profile::Profile;
-
-#[cfg(test)]
-mod tests;

@@ -25,6 +25,3 @@ pub use packing::pack;
 pub use record::{Checked, check};
 pub use spot::Spot;
 pub use whole::view;
-
-#[cfg(test)]
-mod tests;

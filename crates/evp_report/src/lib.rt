@@ -13,6 +13,3 @@ pub use pieces::Pieces;
 pub use report::{put_stones, write_report, write_round_line, write_routes};
 pub use value::{put_quoted, put_value};
 pub use words::{put_counted, put_reason};
-
-#[cfg(test)]
-mod tests;

@@ -21,8 +21,6 @@ mod route_work;
 mod shared;
 mod source;
 mod stone;
-#[cfg(test)]
-mod tests;
 mod turn;
 mod worker;
 

@@ -3,18 +3,12 @@
 #![tactic(auto)]
 
 mod blocks;
-#[cfg(test)]
-mod conversions;
 mod convert;
 mod making;
 mod numbers;
 mod partner;
 mod refused;
-#[cfg(test)]
-mod sample_formats;
 mod slow_fault;
-#[cfg(test)]
-mod tests;
 mod text;
 mod zero;
 

@@ -29,8 +29,3 @@ pub use swap::{swap2, swap4, swap8};
 pub use widen::{widen_signed, widen_unsigned};
 pub use words::{get_word, half_of, put_word, rewrite_number};
 pub use zeros::{near_zero, put_text, zero_at};
-
-#[cfg(test)]
-mod tests;
-#[cfg(test)]
-mod tests_puts;

@@ -1,0 +1,10 @@
+use Rattle.std.proofs.Common.{◌≡◌, ◌<◌, ◌^◌, length}
+use Rattle.std.specs.List.{All}
+use Rattle.evp_profile.specs.declared.declaration.TypeDecl.{TypeDecl}
+use Rattle.evp_profile_tests.proofs.tests.limits.deep.Given as goal
+
+abbrev pub invariant-loop-number : goal.invariant-loop-number
+invariant-loop-number l = record {
+  number : length l.declared.items ≡ l.number;
+  fields : All (λ (declared : TypeDecl). length declared.fields.items < 2 ^ 32) l.declared.items;
+}

@@ -4,7 +4,7 @@ mod AmongEnding
 mod ElementsLeft
 mod Escapes
 mod FieldsLeft
-mod Idle
+pub mod Idle
 mod JobParts
 mod ReportExamples
 mod RoundsLeft

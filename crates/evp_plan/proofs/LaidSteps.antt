@@ -20,7 +20,7 @@ use Rattle.evp_plan.specs.declared.step.Source.{Source}
 use Rattle.evp_plan.specs.declared.step.Step.{Step}
 use Rattle.evp_plan.specs.Cells.{Moving, is_plain_kind}
 use Rattle.evp_plan.specs.Laid.{is_number, number_steps, block_steps, width_of, size_of, is_signed, IsArrayOf, IsBlockOf, AreBlocksOf}
-use Rattle.evp_plan.specs.Laid.{AreApart, AreCellsOf, IsLaidOf, Laying}
+use Rattle.evp_plan.specs.Laid.{AreApart, AreCellsOf, IsLaidOf, IsLaidBetween, Laying}
 use Rattle.evp_plan.specs.Program.{Program, inner_program, programs, last_steps}
 use Rattle.evp_plan.specs.Quiet.{covers, is_quiet, is_quiet_op, tests_of, tests_in}
 
@@ -139,19 +139,26 @@ laid_is from_order order steps tests pointers numbers moves blocks numbers_are p
 -- ---- a plan's
 
 pub plan_laid : (made : Option Laying) (from from' order order' : Order) (steps steps' tests : List Step) (all : List Program)
-    (long fixed pointer pointer' : ℕ)
+    (wide room long fixed from_pointer from_pointer' pointer pointer' : ℕ)
     → IfSome made (λ laid. ((earlier : List Program) → tests ≡ tests_of earlier steps → IsLaidOf from order earlier steps laid)
-    × ((length laid.numbers.cells ≡ long) × (pointer ≡ 8)))
-    → from' ≡ from → order' ≡ order → steps ≡ steps' → tests ≡ tests_of all steps' → fixed ≡ long → pointer' ≡ pointer
-    → IfSome made (λ laid. IsLaidOf from' order' all steps' laid × ((length laid.numbers.cells ≡ fixed) × (pointer' ≡ 8)))
-plan_laid None from from' order order' steps steps' tests all long fixed pointer pointer' is from_is order_is steps_are tests_are fixed_is
-    pointer_is = tt
-plan_laid (Some laid) from from' order order' steps steps' tests all long fixed pointer pointer' is from_is order_is steps_are tests_are
-    fixed_is pointer_is = (
+    × IsLaidBetween wide long from_pointer pointer laid)
+    → from' ≡ from → order' ≡ order → steps ≡ steps' → tests ≡ tests_of all steps' → room ≡ wide → fixed ≡ long
+    → from_pointer' ≡ from_pointer → pointer' ≡ pointer
+    → IfSome made (λ laid. IsLaidOf from' order' all steps' laid × IsLaidBetween room fixed from_pointer' pointer' laid)
+plan_laid None from from' order order' steps steps' tests all wide room long fixed from_pointer from_pointer' pointer pointer' is from_is
+    order_is steps_are tests_are room_is fixed_is from_pointer_is pointer_is = tt
+plan_laid (Some laid) from from' order order' steps steps' tests all wide room long fixed from_pointer from_pointer' pointer pointer' is
+    from_is order_is steps_are tests_are room_is fixed_is from_pointer_is pointer_is = (
       subst (λ (o : Order). IsLaidOf o order' all steps' laid) (sym from_is)
           (subst (λ (o : Order). IsLaidOf from o all steps' laid) (sym order_is)
           (subst (λ (l : List Step). IsLaidOf from order all l laid) steps_are (is.0 all (tests_are ∙ ap (tests_of all) (sym steps_are))))),
-      (is.1.0 ∙ sym fixed_is, pointer_is ∙ is.1.1),
+      record {
+        reach = subst (λ (n : ℕ). laid.numbers.reach ≤ n) (sym room_is) is.1.reach;
+        fixed_is = is.1.fixed_is ∙ sym fixed_is;
+        from_eight = from_pointer_is ∙ is.1.from_eight;
+        eight = pointer_is ∙ is.1.eight;
+        few = is.1.few;
+      },
     )
 
 mapped_at : (f : List Step → List Step) → f [] ≡ [] → (table : List (List Step)) (k : ℕ) → get_or (map f table) k [] ≡ f (get_or table k [])

@@ -24,17 +24,22 @@ lane_fills picks signs bytes k pick sign within signs_within pick_is sign_is sam
 pub all_taken : {X : Type 0} (P : X → Type 0) (xs : List X) (k : ℕ) → length xs ≤ k → All P (take k xs) → All P xs
 all_taken {X} P xs k past all = subst (λ (l : List X). All P l) (take_all k xs past) all
 
--- two more that were looked at, of which those behind them are left
-pub two_more : {X : Type 0} (P Q : X → Type 0) (xs : List X) (one two : X) → 2 ≤ length xs → one ≡ get_or xs 0 one
-    → two ≡ get_or xs 1 two → P one → P two → All Q xs
-    → All Q (take (length xs - 2) (drop 2 xs)) × (All P (take (length xs - 2) (drop 2 xs)) → All P xs)
-two_more P Q [] one two long one_is two_is first second all = absurd (omega (arith, long))
-two_more P Q (a ∷ []) one two long one_is two_is first second all = absurd (omega (arith, long))
-two_more {X} P Q (a ∷ b ∷ xs) one two long one_is two_is first second all =
-    let same : take (length (a ∷ b ∷ xs) - 2) xs ≡ xs = take_all (length (a ∷ b ∷ xs) - 2) xs (omega arith) in (
-      subst (λ (l : List X). All Q l) (sym same) (All-tail Q b xs (All-tail Q a (b ∷ xs) all)),
-      λ rest. All-cons P a (b ∷ xs) (subst P one_is first) (All-cons P b xs (subst P two_is second)
-          (subst (λ (l : List X). All P l) same rest)),
+-- four more that are looked at, of which those behind them are left
+pub four_more : {X : Type 0} (P Q : X → Type 0) (xs : List X) (one two three four : X) → 4 ≤ length xs → one ≡ get_or xs 0 one
+    → two ≡ get_or xs 1 two → three ≡ get_or xs 2 three → four ≡ get_or xs 3 four → All Q xs
+    → All Q (take (length xs - 4) (drop 4 xs))
+    × (P one → P two → P three → P four → All P (take (length xs - 4) (drop 4 xs)) → All P xs)
+four_more P Q [] one two three four long one_is two_is three_is four_is all = absurd (omega (arith, long))
+four_more P Q (a ∷ []) one two three four long one_is two_is three_is four_is all = absurd (omega (arith, long))
+four_more P Q (a ∷ b ∷ []) one two three four long one_is two_is three_is four_is all = absurd (omega (arith, long))
+four_more P Q (a ∷ b ∷ c ∷ []) one two three four long one_is two_is three_is four_is all = absurd (omega (arith, long))
+four_more {X} P Q (a ∷ b ∷ c ∷ d ∷ xs) one two three four long one_is two_is three_is four_is all =
+    let same : take (length (a ∷ b ∷ c ∷ d ∷ xs) - 4) xs ≡ xs = take_all (length (a ∷ b ∷ c ∷ d ∷ xs) - 4) xs (omega arith) in (
+      subst (λ (l : List X). All Q l) (sym same)
+          (All-tail Q d xs (All-tail Q c (d ∷ xs) (All-tail Q b (c ∷ d ∷ xs) (All-tail Q a (b ∷ c ∷ d ∷ xs) all)))),
+      λ first second third fourth rest. All-cons P a (b ∷ c ∷ d ∷ xs) (subst P one_is first)
+          (All-cons P b (c ∷ d ∷ xs) (subst P two_is second) (All-cons P c (d ∷ xs) (subst P three_is third)
+          (All-cons P d xs (subst P four_is fourth) (subst (λ (l : List X). All P l) same rest)))),
     )
 
 -- windows that look at all fills of the words, and end where the words do

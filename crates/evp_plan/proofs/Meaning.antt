@@ -123,13 +123,16 @@ pub record IsCompiled (plan : Planned) (from to : Layout) : Type 0 where
   pub machine : machine_in plan ≡ machine_of to
   pub fixed : plan.fixed ≡ length_of (root_of to)
   pub program : whole_program plan ≡ compiled_tree (branches_in (root_of from)) (root_of to)
+  pub sender : plan.sender ≡ machine_of from
+  pub room : plan.room ≡ length_of (root_of from)
 
 stands_as : (plan : Planned) (from to : Layout) (program : Program) (machine : Machine) (fixed : ℕ) → IsWellLaid from → IsWellLaid to
     → clash from to ≡ None → (IsTrue plan.alike ↔ (from ≡ to))
     → machine_in plan ≡ machine → plan.fixed ≡ fixed → whole_program plan ≡ program → machine ≡ machine_of to
     → fixed ≡ length_of (root_of to) → program ≡ compiled_tree (branches_in (root_of from)) (root_of to)
-    → StandsFor plan from to
-stands_as plan from to program machine fixed laid laid' none alike machine_is fixed_is program_is machine_same fixed_same program_same =
+    → plan.sender ≡ machine_of from → plan.room ≡ length_of (root_of from) → StandsFor plan from to
+stands_as plan from to program machine fixed laid laid' none alike machine_is fixed_is program_is machine_same fixed_same program_same
+    sender_is room_is =
     let root = root_of to in
     let compiled_root = compiled_tree (branches_in (root_of from)) root in
     let same_machine : machine_in plan ≡ machine_of to = machine_is ∙ machine_same in
@@ -164,6 +167,9 @@ stands_as plan from to program machine fixed laid laid' none alike machine_is fi
       no_clash = none;
       alike = alike;
       length = same_fixed;
+      sender = sender_is;
+      room = λ bytes value viewed_as. subst (λ (n : ℕ). n ≤ length bytes) (sym room_is)
+          (root_sent (image_of from bytes) (root_of from) value viewed_as).long;
       pointer_allowed = rw same_pointer (width_of_pointer to.pointer laid'.pointer_allowed);
       measures = λ bytes value limit viewed_as.
           (let agrees = both from to bytes value limit laid' none viewed_as in
@@ -195,4 +201,4 @@ pub stands : (plan : Planned) (from to : Layout) → IsWellLaid from → IsWellL
     → (IsTrue plan.alike ↔ (from ≡ to)) → IsCompiled plan from to → StandsFor plan from to
 stands plan from to laid laid' none alike compiled_as =
     stands_as plan from to (whole_program plan) (machine_in plan) plan.fixed laid laid' none alike refl refl refl compiled_as.machine
-    compiled_as.fixed compiled_as.program
+    compiled_as.fixed compiled_as.program compiled_as.sender compiled_as.room

@@ -1,6 +1,6 @@
 -- Records of single numbers, texts and counted arrays of numbers, made without a look at their steps:
 -- the numbers and zeros by moves, then block by block.
-use Rattle.std.specs.Prelude.{◌≡◌, ℕ, ◌+◌, ◌≤◌, ◌⊎◌, Bool, true, false, List, [], ◌∷◌, length, replicate, Some}
+use Rattle.std.specs.Prelude.{◌≡◌, ℕ, ◌+◌, ◌^◌, ◌≤◌, ◌⊎◌, Bool, true, false, List, [], ◌∷◌, length, replicate, Some}
 use Rattle.std.specs.Prelude.{if◌then◌else◌, ⊤}
 use Rattle.std.specs.List.{All, list_all}
 use Rattle.evp_base.specs.declared.kind.Kind.{Kind}
@@ -132,3 +132,12 @@ pub record IsLaidOf (from_order order : Order) (programs : List Program) (steps 
   pub blocks : AreBlocksOf laid.blocks (block_steps steps)
   pub apart : AreApart (block_steps steps) (number_steps steps)
   pub tests : tests_of programs steps ≡ block_steps steps
+
+-- these stand between records whose fixed parts have so many bytes, on machines with pointers of 8
+-- bytes; no more blocks than can be summed up
+pub record IsLaidBetween (room fixed from_pointer pointer : ℕ) (laid : Laying) : Type 0 where
+  pub reach : laid.numbers.reach ≤ room
+  pub fixed_is : length laid.numbers.cells ≡ fixed
+  pub from_eight : from_pointer ≡ 8
+  pub eight : pointer ≡ 8
+  pub few : length laid.blocks ≤ 2 ^ 20

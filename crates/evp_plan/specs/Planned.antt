@@ -1,5 +1,5 @@
 -- What a plan is, and what it means that it stands for a pair of formats.
-use Rattle.std.specs.Prelude.{◌≡◌, ◌↔◌, ℕ, ◌-◌, Bool, IsTrue, nat_lt, List, [], length, replicate}
+use Rattle.std.specs.Prelude.{◌≡◌, ◌↔◌, ℕ, ◌-◌, ◌≤◌, Bool, IsTrue, nat_lt, List, [], length, replicate}
 use Rattle.std.specs.Prelude.{None, Ok}
 use Rattle.evp_base.specs.declared.order.Order.{Order}
 use Rattle.evp_base.specs.Numbers.{is_width}
@@ -7,7 +7,7 @@ use Rattle.evp_format.specs.Clashing.{clash}
 use Rattle.evp_format.specs.Converting.{Made, made, unless_large, convert}
 use Rattle.evp_format.specs.Datum.{Datum}
 use Rattle.evp_format.specs.Layout.{Layout}
-use Rattle.evp_format.specs.Packing.{Pieces, Machine, put_pieces, pack}
+use Rattle.evp_format.specs.Packing.{Pieces, Machine, machine_of, put_pieces, pack}
 use Rattle.evp_format.specs.Tree.{root_of, length_of}
 use Rattle.evp_format.specs.Viewing.{Image, image_of, view}
 use Rattle.evp_format.specs.WellLaid.{IsWellLaid}
@@ -18,19 +18,23 @@ use Rattle.evp_plan.specs.Program.{Program, program_at}
 use Rattle.evp_plan.specs.Ready.{IsReady}
 use Rattle.evp_plan.specs.Sound.{IsSound}
 
--- how the receiver's machine stores numbers and pointers, the bytes of its record's fixed part,
--- lists of steps of which the last makes the record,
+-- how the sender's machine stores numbers and pointers, and the bytes of its record's fixed part,
+-- the same of the receiver's, lists of steps of which the last makes the record,
 -- and whether the two formats are equal
 pub record Planned : Type 0 where
+  pub sender : Machine
+  pub room : ℕ
   pub order : Order
   pub pointer : ℕ
   pub fixed : ℕ
   pub table : List (List Step)
   pub alike : Bool
 
--- a plan for a receiver of this format
-abbrev pub planned_of : Layout → List (List Step) → Bool → Planned
-planned_of to table alike = record {
+-- a plan for a sender and a receiver of these formats
+abbrev pub planned_of : Layout → Layout → List (List Step) → Bool → Planned
+planned_of from to table alike = record {
+  sender = machine_of from;
+  room = length_of (root_of from);
   order = to.order;
   pointer = to.pointer;
   fixed = length_of (root_of to);
@@ -64,6 +68,8 @@ pub record StandsFor (plan : Planned) (from to : Layout) : Type 0 where
   pub laid : IsWellLaid to
   pub no_clash : clash from to ≡ None
   pub alike : IsTrue plan.alike ↔ (from ≡ to)
+  pub sender : plan.sender ≡ machine_of from
+  pub room : (bytes : List ℕ) (value : Datum) → view from bytes ≡ Ok value → plan.room ≤ length bytes
   pub length : plan.fixed ≡ length_of (root_of to)
   pub pointer_allowed : IsTrue (is_width plan.pointer)
   pub measures : (bytes : List ℕ) (value : Datum) (limit : ℕ) → view from bytes ≡ Ok value

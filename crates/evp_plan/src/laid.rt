@@ -1,8 +1,8 @@
 //! Records that are made without a look at their steps.
 
-ghost use Rattle.std.specs.Prelude.{◌≡◌, List, length, IfOk, IfSome};
+ghost use Rattle.std.specs.Prelude.{◌≡◌, List, IfOk, IfSome};
 ghost use Rattle.evp_format.specs.Tree.{root_of, length_of};
-ghost use Rattle.evp_plan.specs.Laid.{IsLaidOf};
+ghost use Rattle.evp_plan.specs.Laid.{IsLaidOf, IsLaidBetween};
 ghost use Rattle.evp_plan.specs.Program.{Program};
 ghost use Rattle.evp_plan.specs.Quiet.{tests_of};
 
@@ -13,6 +13,9 @@ use evp_base::Memory;
 use evp_format::Format;
 use std::alloc::Global;
 use std::marker::Model;
+
+// The most blocks that a record has that is made so: their sizes have a sum.
+const MOST_BLOCKS: usize = 0x10_0000;
 
 /// What makes records of single numbers, texts and counted arrays of numbers, between machines with
 /// pointers of 8 bytes: moves for the fixed part, with zeros for the pointers, and the blocks in the
@@ -46,7 +49,8 @@ impl Laid {
         ensures { IfOk result (λ made. IfSome made (λ laid.
             ((earlier : List Program) → tests.now ≡ tests_of earlier steps.now
             → IsLaidOf from.now.order to.now.order earlier steps.now laid)
-            × ((length laid.numbers.cells ≡ length_of (root_of to.now)) × (to.now.pointer ≡ 8)))) }
+            × IsLaidBetween (length_of (root_of from.now)) (length_of (root_of to.now))
+            from.now.pointer to.now.pointer laid)) }
     {
         if from.pointer() != 8 || to.pointer() != 8 {
             return Ok(None);
@@ -62,13 +66,20 @@ impl Laid {
         let Some(blocks) = blocks_of(alloc, others.as_slice())? else {
             return Ok(None);
         };
+        if blocks.len() > MOST_BLOCKS {
+            return Ok(None);
+        }
         let fixed = to.root().length;
         let room = from.root().length;
         let (order, sender) = (to.order(), from.order());
-        match whole_with(alloc, order, sender, singles.as_slice(), fixed, room)? {
-            Some(numbers) => Ok(Some(Laid { numbers, blocks })),
-            None => Ok(None),
+        let singles = singles.as_slice();
+        let Some(numbers) = whole_with(alloc, order, sender, singles, fixed, room)? else {
+            return Ok(None);
+        };
+        if numbers.reach() > room as usize {
+            return Ok(None);
         }
+        Ok(Some(Laid { numbers, blocks }))
     }
 
     /// The moves for the fixed part.

@@ -1,7 +1,7 @@
 //! Tests of numbers by windows of sixteen bytes.
 
 ghost use Rattle.std.specs.Prelude.{◌≡◌, ◌+◌, ◌≤◌, ℕ, List, length, IsTrue, IfOk, IfSome};
-ghost use Rattle.evp_wide.specs.Gathered.{picked, gathered, sign_byte, signs_gathered};
+ghost use Rattle.evp_wide.specs.Gathered.{picked, gathered, sign_byte, signs_gathered, AreNone};
 ghost use Rattle.evp_plan.specs.Fills.{IsFilled, AreFilled};
 ghost use Rattle.evp_plan.specs.Lanes.{HasFills, HaveFills, AreInside, AreLanesOf};
 
@@ -10,7 +10,7 @@ use crate::cutting::fills_of;
 use crate::fill::{Fill, Lanes, Window};
 use crate::windows::{place_in, reach_of, windows_for};
 use evp_base::{Memory, Order};
-use evp_wide::{are_both_fills, are_fills};
+use evp_wide::Differences;
 use std::alloc::Global;
 
 // Whether the byte of the one place is compared with the sign of the other.
@@ -67,41 +67,56 @@ fn are_looked_at(windows: &[Window], fills: &[Fill]) -> bool
     true
 }
 
-// Whether two windows of the record at `at` have their fills.
+// Where the bytes of a window of the record at `at` aren't the signs of others.
 #[inline(always)]
-fn have_both(one: &Window, two: &Window, bytes: &[u8], at: usize) -> bool
-    requires one { at + one.now.at + 16 ≤ length bytes.now }
-    requires two { at + two.now.at + 16 ≤ length bytes.now }
-    ensures { IsTrue result → HasFills at bytes.now one.now × HasFills at bytes.now two.now }
+fn differences(window: &Window, bytes: &[u8], at: usize) -> Differences
+    requires { at + window.now.at + 16 ≤ length bytes.now }
+    ensures { AreNone result → HasFills at bytes.now window.now }
 {
-    are_both_fills(
-        bytes,
-        at + one.at,
-        &one.picks,
-        &one.signs,
-        at + two.at,
-        &two.picks,
-        &two.signs,
-    )
+    Differences::between(bytes, at + window.at, &window.picks, &window.signs)
 }
 
-// Whether all windows of the record at `at` have their fills.
+// The same of two windows.
+#[inline(always)]
+fn both_differences(one: &Window, two: &Window, bytes: &[u8], at: usize) -> Differences
+    requires one { at + one.now.at + 16 ≤ length bytes.now }
+    requires two { at + two.now.at + 16 ≤ length bytes.now }
+    ensures { AreNone result → HasFills at bytes.now one.now × HasFills at bytes.now two.now }
+{
+    differences(one, bytes, at).with(differences(two, bytes, at))
+}
+
+// Whether all windows of the record at `at` have their fills: four at a time, and one test at the
+// end.
 #[inline(always)]
 pub(crate) fn have_fills(windows: &[Window], bytes: &[u8], at: usize) -> bool
     requires { AreInside at bytes.now windows.now }
     ensures { IsTrue result → HaveFills at bytes.now windows.now }
 {
+    let mut all = Differences::none();
     let mut left = windows;
-    while let [one, two, rest @ ..] = left {
-        if !have_both(one, two, bytes, at) {
-            return false;
-        }
+    while let [one, two, three, four, rest @ ..] = left {
+        let front = both_differences(one, two, bytes, at);
+        let back = both_differences(three, four, bytes, at);
+        all = all.with(front.with(back));
         left = rest;
     }
-    match left {
-        [window] => are_fills(bytes, at + window.at, &window.picks, &window.signs),
-        _ => true,
+    have_few(left, bytes, at, all)
+}
+
+// Whether there are none of these differences, and the windows of the record at `at` have their
+// fills.
+#[inline(always)]
+fn have_few(windows: &[Window], bytes: &[u8], at: usize, others: Differences) -> bool
+    requires { AreInside at bytes.now windows.now }
+    ensures none { IsTrue result → AreNone others }
+    ensures fills { IsTrue result → HaveFills at bytes.now windows.now }
+{
+    let mut all = others;
+    for window in windows {
+        all = all.with(differences(window, bytes, at));
     }
+    all.are_none()
 }
 
 // Windows that tell the words of these tests, of a sender of this order, where there are fewer than

@@ -2,7 +2,7 @@
 
 ghost use Rattle.std.specs.Prelude.{◌≡◌, ◌<◌, ◌≤◌, [], length, get_or, IfOk, IfSome};
 ghost use Rattle.evp_plan.specs.Cells.{IsMovesOf, IsWholeOf};
-ghost use Rattle.evp_plan.specs.Laid.{IsLaidOf};
+ghost use Rattle.evp_plan.specs.Laid.{IsLaidOf, IsLaidBetween};
 ghost use Rattle.evp_plan.specs.Program.{IsOrdered, programs, last_steps};
 ghost use Rattle.evp_plan.specs.Quiet.{tests_of};
 ghost use Rattle.evp_plan.specs.Quicks.{steps_in};
@@ -23,9 +23,12 @@ pub struct Plan {
     fixed: u32,
     table: Vec<Steps>,
     alike: bool,
-    // The order of the sender's bytes, and for each list of steps the moves, where gathers make
-    // all.
+    // The order of the sender's bytes, the bytes of its pointers, and those of the fixed part of its
+    // record.
     sender: Order,
+    sender_pointer: u8,
+    room: u32,
+    // For each list of steps the moves, where gathers make all.
     moves: Vec<Option<Moves>>,
     // The moves for the last list that make all of the record, where gathers do.
     whole: Option<Moves>,
@@ -42,13 +45,15 @@ impl Model for Plan {
     ghost use Rattle.evp_plan.specs.Planned.{Planned};
     ghost use Rattle.evp_plan.specs.Program.{IsOrdered, programs, last_steps};
     ghost use Rattle.evp_plan.specs.Cells.{AreMovesOf, IsWholeOf};
-    ghost use Rattle.evp_plan.specs.Laid.{IsLaidOf};
+    ghost use Rattle.evp_plan.specs.Laid.{IsLaidOf, IsLaidBetween};
     ghost use Rattle.evp_plan.specs.Quiet.{tests_in};
     ghost use Rattle.evp_plan.specs.Quicks.{steps_in};
 
     ghost Value = { Planned };
 
     ghost view = { λ p. record {
+      sender = record { order = p.sender; pointer = p.sender_pointer };
+      room = p.room;
       order = p.order;
       pointer = p.pointer;
       fixed = p.fixed;
@@ -63,7 +68,7 @@ impl Model for Plan {
         × ((steps_in p.quick ≡ last_steps p.tests.items)
         × IfSome p.laid (λ laid. IsLaidOf p.sender p.order (programs p.table.items)
         (last_steps p.table.items) laid
-        × ((length laid.numbers.cells ≡ p.fixed) × (p.pointer ≡ 8)))))))) };
+        × IsLaidBetween p.room p.fixed p.sender_pointer p.pointer laid)))))) };
 }
 
 // The last list of steps.
@@ -87,10 +92,11 @@ impl Plan {
     ) -> Result<Self, Memory>
         requires ordered { IsOrdered table.items }
         requires some { 1 ≤ length table.items }
-        ensures { IfOk result (λ plan. plan ≡ planned_of to.now table.items alike) }
+        ensures { IfOk result (λ plan. plan ≡ planned_of from.now to.now table.items alike) }
     {
         let order = to.order();
         let sender = from.order();
+        let room = from.root().length;
         let fixed = to.root().length;
         let last = last_list(table.as_slice());
         let moves = all_moves(alloc, order, sender, table.as_slice())?;
@@ -105,6 +111,8 @@ impl Plan {
             table,
             alike,
             sender,
+            sender_pointer: from.pointer(),
+            room,
             moves,
             whole,
             tests,
@@ -188,42 +196,33 @@ impl Plan {
         }
     }
 
-    /// The moves that make all of the record from a sender of this order, where gathers do.
-    pub fn whole(&self, from: Order) -> Option<&Moves>
-        ensures moves { IfSome result (λ moves. IsWholeOf from self.now.order
+    /// The moves that make all of the record, where gathers do.
+    #[inline(always)]
+    pub fn whole(&self) -> Option<&Moves>
+        ensures moves { IfSome result (λ moves. IsWholeOf self.now.sender.order self.now.order
             (last_steps self.now.table) moves.now) }
         ensures ordered { IsOrdered self.now.table }
         ensures some { 1 ≤ length self.now.table }
     {
-        if self.sender != from {
-            return None;
-        }
         match &self.whole {
             Some(moves) => Some(moves),
             None => None,
         }
     }
 
-    /// What makes all of the record without a look at its steps, from a sender of this order with
-    /// pointers of so many bytes, whose record has so many; none where it isn't so simple.
+    /// What makes all of the record without a look at its steps; none where it isn't so simple.
     #[inline(always)]
-    pub fn laid(&self, from: Order, pointer: u8, room: usize) -> Option<&Laid>
-        ensures laid { IfSome result (λ laid. IsLaidOf from self.now.order
+    pub fn laid(&self) -> Option<&Laid>
+        ensures laid { IfSome result (λ laid. IsLaidOf self.now.sender.order self.now.order
             (programs self.now.table) (last_steps self.now.table) laid.now) }
-        ensures fixed { IfSome result (λ laid. length laid.now.numbers.cells ≡ self.now.fixed) }
-        ensures reach { IfSome result (λ laid. laid.now.numbers.reach ≤ room) }
-        ensures sender { IfSome result (λ _. pointer ≡ 8) }
-        ensures receiver { IfSome result (λ _. self.now.pointer ≡ 8) }
+        ensures between { IfSome result (λ laid. IsLaidBetween self.now.room self.now.fixed
+            self.now.sender.pointer self.now.pointer laid.now) }
         ensures ordered { IsOrdered self.now.table }
         ensures some { 1 ≤ length self.now.table }
     {
-        let _table = self.table();
-        let Some(laid) = &self.laid else {
-            return None;
-        };
-        if self.sender != from || pointer != 8 || laid.numbers().reach() > room {
-            return None;
+        match &self.laid {
+            Some(laid) => Some(laid),
+            None => None,
         }
-        Some(laid)
     }
 }

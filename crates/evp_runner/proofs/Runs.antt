@@ -5,7 +5,7 @@ use Rattle.evp_format.specs.declared.broken.Broken.{Broken}
 use Rattle.evp_format.specs.Converting.{Made, made, unfit, large, convert}
 use Rattle.evp_format.specs.Datum.{Datum}
 use Rattle.evp_format.specs.Layout.{Layout}
-use Rattle.evp_format.specs.Packing.{Pieces, put_pieces}
+use Rattle.evp_format.specs.Packing.{Pieces, Machine, put_pieces}
 use Rattle.evp_format.specs.Viewing.{Image, image_of, view}
 use Rattle.evp_plan.specs.Measuring.{sized}
 use Rattle.evp_plan.specs.Moving.{moved}
@@ -36,6 +36,24 @@ pub measured_value : (plan : Planned) (held : Record) (to : Layout) (limit : ℕ
     → outcome (measured_whole plan (image_of held.layout held.bytes) limit) ≡ outcome (convert to (value_of held) limit)
 measured_value plan held to limit is stands =
     ap outcome (stands.measures held.bytes (value_of held) limit (viewed_as held is)) ∙ outcome-sized (convert to (value_of held) limit)
+
+-- ---- what the plan knows of a record of its sender's
+
+pub sent_order : (plan : Planned) (held : Record) (to : Layout) (image : Image) → StandsFor plan held.layout to
+    → image ≡ image_of held.layout held.bytes → plan.sender.order ≡ image.order
+sent_order plan held to image stands image_is = ap (λ (m : Machine). m.order) stands.sender ∙ sym (ap (λ (i : Image). i.order) image_is)
+
+pub sent_pointer : (plan : Planned) (held : Record) (to : Layout) (image : Image) → StandsFor plan held.layout to
+    → image ≡ image_of held.layout held.bytes → plan.sender.pointer ≡ 8 → image.pointer ≡ 8
+sent_pointer plan held to image stands image_is eight =
+    ap (λ (i : Image). i.pointer) image_is ∙ sym (ap (λ (m : Machine). m.pointer) stands.sender) ∙ eight
+
+pub sent_room : (plan : Planned) (held : Record) (to : Layout) (image : Image) → StandsFor plan held.layout to → IsRecord held
+    → image ≡ image_of held.layout held.bytes → plan.room ≤ length image.bytes
+sent_room plan held to image stands is image_is =
+    subst (λ (i : Image). plan.room ≤ length i.bytes) (sym image_is) (stands.room held.bytes (value_of held) (viewed_as held is))
+
+-- ---- what runs
 
 pub can_whole : (plan : Planned) (held : Record) (to : Layout) (image : Image) (n placed : ℕ) → StandsFor plan held.layout to
     → IsRecord held → image ≡ image_of held.layout held.bytes → n ≡ length plan.table - 1 → placed ≡ 0

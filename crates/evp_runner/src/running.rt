@@ -68,7 +68,7 @@ fn laid_whole(plan: &Plan, item: &Checked, limit: u32) -> Option<u32>
 {
     let _held = item.bytes();
     let sender = sender_of(item);
-    let laid = plan.laid(sender.order, sender.pointer, sender.bytes.len())?;
+    let laid = plan.laid()?;
     let fixed = plan.fixed() as usize;
     let size = laid_size(laid.blocks(), sender.bytes, sender.order, fixed, limit)?;
     Some(size as u32)
@@ -219,13 +219,13 @@ pub(crate) fn run_over(plan: &Plan, item: Checked, out: &mut [u8], is_zero: bool
 {
     let _held = item.bytes();
     let sender = sender_of(&item);
-    if let Some(moves) = plan.whole(sender.order) {
+    if let Some(moves) = plan.whole() {
         if moves.length() == out.len() {
             moves.run(out, 0, sender.bytes, 0);
             return;
         }
     }
-    if let Some(laid) = plan.laid(sender.order, sender.pointer, sender.bytes.len()) {
+    if let Some(laid) = plan.laid() {
         if lay(plan, laid, sender.bytes, sender.order, out) {
             return;
         }

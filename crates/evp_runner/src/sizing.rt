@@ -13,9 +13,6 @@ use evp_base::Order;
 use evp_plan::{Array, Block, Form, Text};
 use evp_wide::near_zero;
 
-// The most blocks whose sizes are taken.
-const MOST_BLOCKS: usize = 0x10_0000;
-
 /// Where the next block begins.
 #[inline(always)]
 pub(crate) fn aligned(size: usize) -> usize
@@ -100,13 +97,11 @@ fn size_by(blocks: &[Block], bytes: &[u8], order: Order, fixed: usize, limit: u3
     requires inside { All (IsBlockInside bytes.now) blocks.now }
     requires short { length bytes.now < 2 ^ 32 }
     requires fixed_small { fixed < 2 ^ 32 }
+    requires few { length blocks.now ≤ 2 ^ 20 }
     ensures ends { IfSome result (λ end. AllEndAt (image_by_eight order bytes.now) blocks.now fixed
         end) }
     ensures limited { IfSome result (λ end. end ≤ limit) }
 {
-    if blocks.len() > MOST_BLOCKS {
-        return None;
-    }
     let mut size = fixed;
     for block in blocks {
         let Some(end) = size_of_block(bytes, block, order, size) else {
@@ -134,6 +129,7 @@ pub(crate) fn laid_size(
     requires inside { All (IsBlockInside bytes.now) blocks.now }
     requires short { length bytes.now < 2 ^ 32 }
     requires fixed_small { fixed < 2 ^ 32 }
+    requires few { length blocks.now ≤ 2 ^ 20 }
     ensures ends { IfSome result (λ end. AllEndAt (image_by_eight order bytes.now) blocks.now fixed
         end) }
     ensures limited { IfSome result (λ end. end ≤ limit) }

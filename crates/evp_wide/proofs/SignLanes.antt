@@ -9,7 +9,7 @@ use Rattle.std.proofs.lemmas.List.{length-map, length-replicate}
 use Rattle.std.proofs.lemmas.Nat.{and_le_l, and_le_r, le_or_l, le_or_r}
 use Rattle.std.proofs.lemmas.Simd.{swz_l, length-zip2, mask_l-mod, tops_compared}
 use lib.Lanes.{zip2, sel_l, mask_l, top}
-use Rattle.evp_wide.specs.Gathered.{picked, gathered, sign_byte, signs_gathered, ArePlaces}
+use Rattle.evp_wide.specs.Gathered.{picked, gathered, sign_byte, signs_gathered, ArePlaces, AreNone}
 use Rattle.evp_wide.proofs.Gathers.{shuffled}
 use Rattle.evp_wide.proofs.Signs.{compared, signs_are}
 
@@ -93,12 +93,16 @@ either_none (suc n) (x ∷ xs) (y ∷ ys) long also none =
     let two : y ≡ 0 = omega (arith, first, le_or_r x y) in
     (λ i. one i ∷ others.0 i, λ i. two i ∷ others.1 i)
 
--- the test that all of these lanes are 0
-abbrev IsNone : List ℕ → Type 0
-IsNone lanes =
-    IsTrue (eqb (mask_l (map (top 7) (zip2 (λ a b. cond (eqb a b) 255 0) lanes (replicate 16 0))) % 18446744073709551616) 65535)
+-- ---- bits in which sixteen bytes differ
 
-differences_none : (bytes signs bits : List ℕ) → length bytes ≡ 16 → length signs ≡ 16 → bits ≡ zip2 bit_xor bytes signs
+-- the test that all of these lanes are 0
+abbrev pub is_none : List ℕ → Bool
+is_none bits = eqb (mask_l (map (top 7) (zip2 (λ a b. cond (eqb a b) 255 0) bits (replicate 16 0))) % 18446744073709551616) 65535
+
+pub none_set : (bits : List ℕ) → length bits ≡ 16 → IsTrue (is_none bits) ↔ AreNone bits
+none_set bits long = all_equal bits (replicate 16 0) long (length-replicate {A = ℕ} 16 0)
+
+pub differences_none : (bytes signs bits : List ℕ) → length bytes ≡ 16 → length signs ≡ 16 → bits ≡ zip2 bit_xor bytes signs
     → (bits ≡ replicate 16 0) ↔ (bytes ≡ signs)
 differences_none bytes signs bits long also is =
     let zeros : replicate (length bytes) 0 ≡ replicate 16 0 = ap (λ (n : ℕ). replicate n 0) long in (
@@ -106,30 +110,19 @@ differences_none bytes signs bits long also is =
       λ same. is ∙ ap (zip2 bit_xor bytes) (sym same) ∙ none_differ bytes ∙ zeros,
     )
 
--- whether sixteen bytes are sixteen others, by the bits in which they differ
-pub filled : (bytes signs bits : List ℕ) → length bytes ≡ 16 → length signs ≡ 16 → bits ≡ zip2 bit_xor bytes signs
-    → IsNone bits ↔ (bytes ≡ signs)
-filled bytes signs bits long also is =
-    let all = all_equal bits (replicate 16 0) (ap length is ∙ length-zip2 bit_xor bytes signs (long ∙ sym also) ∙ long)
-    (length-replicate {A = ℕ} 16 0) in
-    let none = differences_none bytes signs bits long also is in
-    (λ set. none.0 (all.0 set), λ same. all.1 (none.1 same))
+pub differences_long : (bytes signs bits : List ℕ) → length bytes ≡ 16 → length signs ≡ 16 → bits ≡ zip2 bit_xor bytes signs
+    → length bits ≡ 16
+differences_long bytes signs bits long also is = ap length is ∙ length-zip2 bit_xor bytes signs (long ∙ sym also) ∙ long
 
--- the same of two times sixteen at once
-pub both_filled : (bytes signs bits bytes' signs' bits' : List ℕ) → length bytes ≡ 16 → length signs ≡ 16
-    → bits ≡ zip2 bit_xor bytes signs → length bytes' ≡ 16 → length signs' ≡ 16 → bits' ≡ zip2 bit_xor bytes' signs'
-    → IsNone (zip2 bit_or bits bits') ↔ ((bytes ≡ signs) × (bytes' ≡ signs'))
-both_filled bytes signs bits bytes' signs' bits' long also is long' also' is' =
-    let sixteen : length bits ≡ 16 = ap length is ∙ length-zip2 bit_xor bytes signs (long ∙ sym also) ∙ long in
-    let sixteen' : length bits' ≡ 16 = ap length is' ∙ length-zip2 bit_xor bytes' signs' (long' ∙ sym also') ∙ long' in
-    let all = all_equal (zip2 bit_or bits bits') (replicate 16 0) (length-zip2 bit_or bits bits' (sixteen ∙ sym sixteen') ∙ sixteen)
-    (length-replicate {A = ℕ} 16 0) in
-    let none = differences_none bytes signs bits long also is in
-    let none' = differences_none bytes' signs' bits' long' also' is' in (
-      λ set. let both = either_none 16 bits bits' sixteen sixteen' (all.0 set) in (none.0 both.0, none'.0 both.1),
-      λ same. all.1 (ap (λ (l : List ℕ). zip2 bit_or l bits') (none.1 same.0)
-          ∙ ap (zip2 bit_or (replicate 16 0)) (none'.1 same.1) ∙ none_of_either 16),
-    )
+pub both_long : (bits others : List ℕ) → length bits ≡ 16 → length others ≡ 16 → length (zip2 bit_or bits others) ≡ 16
+both_long bits others long also = length-zip2 bit_or bits others (long ∙ sym also) ∙ long
+
+pub none_in_both : (bits others : List ℕ) → length bits ≡ 16 → length others ≡ 16
+    → AreNone (zip2 bit_or bits others) ↔ (AreNone bits × AreNone others)
+none_in_both bits others long also = (
+  λ none. either_none 16 bits others long also none,
+  λ both. ap (λ (l : List ℕ). zip2 bit_or l others) both.0 ∙ ap (zip2 bit_or (replicate 16 0)) both.1 ∙ none_of_either 16,
+)
 
 -- ---- what the masks pick
 

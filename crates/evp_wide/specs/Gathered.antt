@@ -1,6 +1,6 @@
 -- Bytes picked from a window of sixteen.
 use lib.Lanes.{zip2}
-use Rattle.std.specs.Prelude.{ℕ, ◌<◌, ◌≤◌, ◌⊎◌, nat_lt, if◌then◌else◌, List, map, take, slice_index}
+use Rattle.std.specs.Prelude.{◌≡◌, ℕ, ◌<◌, ◌≤◌, ◌⊎◌, nat_lt, if◌then◌else◌, List, map, take, replicate, slice_index}
 use Rattle.std.specs.Prelude.{All, bit_or, bit_and}
 
 -- a byte of the window, or 0 where the place is none
@@ -30,3 +30,7 @@ with_constant bytes constant = zip2 bit_or bytes constant
 -- each of sixteen bytes with those bits set too that stood there and are kept
 abbrev pub with_kept : List ℕ → List ℕ → List ℕ → List ℕ
 with_kept bytes keep stood = zip2 bit_or bytes (zip2 bit_and (take 16 stood) keep)
+
+-- bits in which sixteen bytes differ from others: none is set
+abbrev pub AreNone : List ℕ → Type 0
+AreNone bits = bits ≡ replicate 16 0

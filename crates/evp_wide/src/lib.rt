@@ -19,7 +19,7 @@ mod zeros;
 
 pub use clearing::clear;
 pub use counts::get_count;
-pub use fills::{are_both_fills, are_fills};
+pub use fills::Differences;
 pub use fronts::put_front;
 pub use lanes::{Blend, Mask, gather, gather_blend, gather_or, gather_signs};
 pub use numbers::{put_signed, rewrite};

@@ -126,6 +126,7 @@ fn zero_in_two(bytes: &[u8], from: usize, behind: usize) -> Option<usize>
 /// memory.
 #[inline(always)]
 pub fn put_text(out: &mut [u8], size: usize, to: usize, bytes: &[u8], from: usize) -> Option<usize>
+    requires inside { size ≤ length out.old }
     requires behind { size ≤ to }
     requires near { to ≤ size + 8 }
     ensures length { length out.new ≡ length out.old }
@@ -137,7 +138,7 @@ pub fn put_text(out: &mut [u8], size: usize, to: usize, bytes: &[u8], from: usiz
 {
     let behind = second_behind(bytes, from)?;
     let count = zero_in_two(bytes, from, behind)?;
-    if to > out.len() || out.len() - to < behind + 16 {
+    if out.len() < to + behind + 16 {
         return None;
     }
     put_windows(out, size, to, bytes, from, behind);

@@ -1,10 +1,10 @@
-ghost use Rattle.std.specs.Prelude.{◌≡◌, ◌%◌, ◌≤◌, ◌*◌, length};
+ghost use Rattle.std.specs.Prelude.{◌≡◌, ◌+◌, ◌%◌, ◌≤◌, ◌*◌, length};
 
 use evp_base::{Kind, Order};
 use evp_wide::{
-    Blend, Mask, are_both_fills, are_fills, clear, gather, gather_blend, gather_or, gather_signs,
-    gather_two, gather_with_signs, get_count, get_word, put_front, put_word, rewrite,
-    rewrite_number, swap2, swap4, swap8, widen_signed, widen_unsigned, zero_at,
+    Blend, Differences, Mask, clear, gather, gather_blend, gather_or, gather_signs, gather_two,
+    gather_with_signs, get_count, get_word, put_front, put_word, rewrite, rewrite_number, swap2,
+    swap4, swap8, widen_signed, widen_unsigned, zero_at,
 };
 use std::test::*;
 
@@ -207,6 +207,13 @@ fn two_windows_make_sixteen_bytes(rt: HostRuntime) -> Result<(), Fail> {
     Ok(())
 }
 
+// Whether the bytes that the one mask picks are the signs of those that the other picks.
+fn are_fills(from: &[u8], at: usize, picks: &Mask, signs: &Mask) -> bool
+    requires { at + 16 ≤ length from.now }
+{
+    Differences::between(from, at, picks, signs).are_none()
+}
+
 #[test]
 fn fills_are_signs(rt: HostRuntime) -> Result<(), Fail> {
     // 127, -128, 128 and -129 in two bytes, the lowest first, and others
@@ -240,6 +247,24 @@ fn fills_are_signs(rt: HostRuntime) -> Result<(), Fail> {
     assert!(rt; are_fills(&from, 1, &last, &none), "the last byte");
     assert!(rt; !are_fills(&from, 2, &last, &none), "another one");
     Ok(())
+}
+
+// The same of two windows, by one test.
+fn are_both_fills(
+    from: &[u8],
+    at: usize,
+    picks: &Mask,
+    signs: &Mask,
+    other_at: usize,
+    other_picks: &Mask,
+    other_signs: &Mask,
+) -> bool
+    requires window { at + 16 ≤ length from.now }
+    requires other { other_at + 16 ≤ length from.now }
+{
+    let one = Differences::between(from, at, picks, signs);
+    let two = Differences::between(from, other_at, other_picks, other_signs);
+    one.with(two).are_none()
 }
 
 #[test]

@@ -14,11 +14,11 @@ returns c =
     let from = c.args.from.now in
     let to = c.args.to.now in
     let table = c.in_ok-table.table.items in
-    let plan = planned_of to table c.eq-alike.result in
+    let plan = planned_of from to table c.eq-alike.result in
     let compiled = whole_compiled from to table c.types-sender.ensures.laid c.types-receiver.ensures.laid c.in_ok-table.ensures.table
     c.in_ok-table.ensures.whole in
     let P : Planned → Type 0 = λ p. StandsFor p from to in
     let meant : StandsFor plan from to =
     stands plan from to c.types-sender.ensures.laid c.types-receiver.ensures.laid c.requires c.eq-alike.ensures.same
-    (record { machine = refl; fixed = refl; program = compiled }) in
+    (record { machine = refl; fixed = refl; program = compiled; sender = refl; room = refl }) in
     IfOk-weaker c.new.result (λ p. p ≡ plan) P (λ p is. subst P (sym is) meant) c.new.ensures

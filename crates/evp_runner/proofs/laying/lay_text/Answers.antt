@@ -16,6 +16,10 @@ aligned-q-requires c =
     let front = facts.front in
     search rules
 
+pub put_text-requires-clause-inside : goal.put_text-requires-clause-inside
+put_text-requires-clause-inside c = (text_facts c.args.work.now.plan.now (image_in c.args.work.now.sender) c.args.order c.args.to_order
+    c.args.text.now c.args.size (length c.args.out.now) c.requires.orders c.requires.can).front
+
 pub returns : goal.returns
 returns c = λ can.
     let out_long = c.put_text.auto.out in

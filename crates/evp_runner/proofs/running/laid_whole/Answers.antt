@@ -1,4 +1,4 @@
-use Rattle.std.proofs.Common.{◌≡◌, ℕ, ◌-◌, List, length, Ok, refl, sym, ap, subst}
+use Rattle.std.proofs.Common.{◌≡◌, ℕ, ◌-◌, List, length, Ok, refl, sym, ap, subst, arith}
 use Rattle.std.specs.List.{All}
 use Rattle.evp_format.specs.Viewing.{Image}
 use Rattle.evp_plan.specs.declared.block.Block.{Block}
@@ -7,7 +7,7 @@ use Rattle.evp_runner.specs.Outcome.{outcome}
 use Rattle.evp_runner.specs.Sizing.{image_by_eight, IsBlockInside, AllEndAt}
 use Rattle.evp_runner.specs.StepIn.{image_in}
 use Rattle.evp_runner.proofs.LaidSizes.{laid_inside, laid_found}
-use Rattle.evp_runner.proofs.Runs.{can_whole}
+use Rattle.evp_runner.proofs.Runs.{can_whole, sent_pointer}
 use Rattle.evp_runner.proofs.running.laid_whole.Goals as goal
 
 pub laid_size-requires-clause-inside : goal.laid_size-requires-clause-inside
@@ -18,10 +18,13 @@ laid_size-requires-clause-inside c =
     let said = c.in_ok-laid.ensures in
     let Inside : List Block → Type 0 = λ blocks. All (IsBlockInside sender.bytes.now) blocks in
     subst Inside (sym c.blocks-2.ensures)
-    (laid_inside plan image sender.order c.in_ok-laid.laid.now said.ordered said.some said.laid
+    (laid_inside plan image plan.sender.order c.in_ok-laid.laid.now said.ordered said.some said.laid
     (can_whole plan c.args.item.now c.requires.to image (length plan.table - 1) 0 c.requires.stands c.bytes-held.ensures.kept
     c.sender_of-sender.ensures refl refl)
-    said.sender)
+    (sent_pointer plan c.args.item.now c.requires.to image c.requires.stands c.sender_of-sender.ensures said.between.from_eight))
+
+pub laid_size-requires-clause-few : goal.laid_size-requires-clause-few
+laid_size-requires-clause-few c = let few = c.in_ok-laid.ensures.between.few in let same = ap (length {A = Block}) c.blocks-2.ensures in omega (arith, few, same)
 
 pub returns : goal.returns
 returns c =
@@ -31,11 +34,12 @@ returns c =
     let said = c.in_ok-laid.ensures in
     let size = c.in_ok-size.size in
     let eight : image_by_eight sender.order sender.bytes.now ≡ image =
-    ap (λ (p : ℕ). record { order = sender.order; pointer = p; bytes = sender.bytes.now }) (sym said.sender) in
+    ap (λ (p : ℕ). record { order = sender.order; pointer = p; bytes = sender.bytes.now })
+    (sym (sent_pointer plan c.args.item.now c.requires.to image c.requires.stands c.sender_of-sender.ensures said.between.from_eight)) in
     let Ends : Image → Type 0 = λ i. AllEndAt i c.blocks-2.result.now c.fixed-fixed.result size in
     let IsFound : Image → Type 0 = λ i. Ok size ≡ outcome (measured_whole plan i c.args.limit) in
     subst IsFound c.sender_of-sender.ensures
-    (laid_found plan c.args.limit image sender.order c.in_ok-laid.laid.now c.blocks-2.result.now c.fixed-fixed.result size said.ordered
+    (laid_found plan c.args.limit image plan.sender.order c.in_ok-laid.laid.now c.blocks-2.result.now c.fixed-fixed.result size said.ordered
     said.some said.laid
     (can_whole plan c.args.item.now c.requires.to image (length plan.table - 1) 0 c.requires.stands c.bytes-held.ensures.kept
     c.sender_of-sender.ensures refl refl)

@@ -1,8 +1,12 @@
 use Rattle.std.proofs.Common.{◌≡◌, ℕ, ◌-◌, List, length, refl, sym, ap, arith, subst}
 use Rattle.std.specs.Prelude.{replicate}
+use Rattle.evp_base.specs.declared.order.Order.{Order}
 use Rattle.evp_format.specs.Layout.{Layout}
 use Rattle.evp_format.specs.Viewing.{Image}
+use Rattle.evp_plan.specs.Cells.{IsWholeOf}
+use Rattle.evp_plan.specs.Laid.{IsLaidOf}
 use Rattle.evp_plan.specs.Planned.{Planned}
+use Rattle.evp_plan.specs.Program.{programs, last_steps}
 use Rattle.evp_record.specs.Record.{Record, record_of}
 use Rattle.evp_runner.specs.declared.sender.Sender.{Sender}
 use Rattle.evp_runner.specs.Laying.{CanLayAll, all_moved}
@@ -12,7 +16,7 @@ use Rattle.evp_runner.specs.Sizing.{image_by_eight}
 use Rattle.evp_runner.specs.StepIn.{image_in}
 use Rattle.evp_runner.proofs.Painting.{paints_all, all_reach, all_put}
 use Rattle.evp_runner.proofs.LaidRecords.{can_lay_all, laid_converted}
-use Rattle.evp_runner.proofs.Runs.{converted_whole}
+use Rattle.evp_runner.proofs.Runs.{converted_whole, sent_order, sent_pointer, sent_room}
 use Rattle.evp_runner.proofs.running.run_over.Goals as goal
 
 -- what was made of a record's parts is made of the record
@@ -33,7 +37,10 @@ run-requires-clause-reach c =
     let image = image_in c.sender_of-sender.result in
     let moves = c.in-Some.moves.now in
     let known = paints_all plan c.args.item c.requires.plan_from.to image moves c.requires.plan_from.stands c.bytes-held.ensures.kept
-    c.sender_of-sender.ensures c.in-Some.ensures.ordered c.in-Some.ensures.some c.in-Some.ensures.moves in
+    c.sender_of-sender.ensures c.in-Some.ensures.ordered c.in-Some.ensures.some
+    (subst (λ (o : Order). IsWholeOf o plan.order (last_steps plan.table) moves)
+    (sent_order plan c.args.item c.requires.plan_from.to image c.requires.plan_from.stands c.sender_of-sender.ensures)
+    c.in-Some.ensures.moves) in
     all_reach plan image moves known
 
 pub returns-then-length-out : goal.returns-then-length-out
@@ -43,7 +50,10 @@ returns-then-length-out c =
     let moves = c.in-Some.moves.now in
     let out = c.args.out.now in
     let known = paints_all plan c.args.item c.requires.plan_from.to image moves c.requires.plan_from.stands c.bytes-held.ensures.kept
-    c.sender_of-sender.ensures c.in-Some.ensures.ordered c.in-Some.ensures.some c.in-Some.ensures.moves in
+    c.sender_of-sender.ensures c.in-Some.ensures.ordered c.in-Some.ensures.some
+    (subst (λ (o : Order). IsWholeOf o plan.order (last_steps plan.table) moves)
+    (sent_order plan c.args.item c.requires.plan_from.to image c.requires.plan_from.stands c.sender_of-sender.ensures)
+    c.in-Some.ensures.moves) in
     let long = c.length.ensures in
     let same = c.if-length-out.true in
     let put = all_put plan image moves out c.run.new.out known c.sender_of-sender.result.are (omega (arith, long, same))
@@ -54,13 +64,23 @@ returns-then-length-out c =
 
 pub lay-requires-clause-can : goal.lay-requires-clause-can
 lay-requires-clause-can c =
+    let plan = c.args.plan.now in
     let e = c.in-Some-laid.ensures in
     let sender = c.sender_of-sender.result in
-    let Can : Image → Type 0 = λ i. CanLayAll c.args.plan.now i c.in-Some-laid.laid.now (length c.args.out.now) in
-    subst Can (by_eight sender e.sender)
-    (can_lay_all c.args.plan.now c.args.item c.requires.plan_from.to (image_in sender) c.in-Some-laid.laid.now
-    (length c.args.out.now) c.requires.plan_from.stands c.bytes-held.ensures.kept c.requires.size c.sender_of-sender.ensures
-    e.ordered e.some e.laid e.fixed e.reach)
+    let image = image_in sender in
+    let stands = c.requires.plan_from.stands in
+    let to = c.requires.plan_from.to in
+    let held = c.bytes-held.ensures.kept in
+    let laid = c.in-Some-laid.laid.now in
+    let Can : Image → Type 0 = λ i. CanLayAll plan i laid (length c.args.out.now) in
+    let room = sent_room plan c.args.item to image stands held c.sender_of-sender.ensures in
+    let reach = e.between.reach in
+    subst Can (by_eight sender (sent_pointer plan c.args.item to image stands c.sender_of-sender.ensures e.between.from_eight))
+    (can_lay_all plan c.args.item to image laid (length c.args.out.now) stands held c.requires.size c.sender_of-sender.ensures e.ordered
+    e.some
+    (subst (λ (o : Order). IsLaidOf o plan.order (programs plan.table) (last_steps plan.table) laid)
+    (sent_order plan c.args.item to image stands c.sender_of-sender.ensures) e.laid)
+    e.between.fixed_is (omega (arith, room, reach)))
 
 pub returns-then-lay : goal.returns-then-lay
 returns-then-lay c =
@@ -72,8 +92,9 @@ returns-then-lay c =
     (replicate (length new) 0) new in
     laid_converted c.args.plan.now c.args.item c.requires.plan_from.to (image_in sender) laid
     (length c.args.out.now) new c.requires.plan_from.stands c.bytes-held.ensures.kept c.requires.size
-    c.sender_of-sender.ensures e.ordered e.some e.fixed c.lay.auto.out
-    (subst Put (sym (by_eight sender e.sender)) (c.lay.ensures c.if-lay.true))
+    c.sender_of-sender.ensures e.ordered e.some e.between.fixed_is c.lay.auto.out
+    (subst Put (sym (by_eight sender (sent_pointer c.args.plan.now c.args.item c.requires.plan_from.to (image_in sender)
+    c.requires.plan_from.stands c.sender_of-sender.ensures e.between.from_eight))) (c.lay.ensures c.if-lay.true))
 
 pub returns-in-Some-laid : goal.returns-in-Some-laid
 returns-in-Some-laid c = of_parts c.args.plan.now c.args.item c.format.result.now c.bytes.result.now c.run_steps.new.out

@@ -10,6 +10,6 @@ returns-clause-front c =
     let bytes = c.args.bytes.now in
     let from = c.args.from in
     fewer_put c.args.size c.args.to (count + 1) (behind + 16) (drop from bytes) c.args.out.now c.put_windows.new.out c.requires.behind
-    (omega (arith, c.requires.behind, c.if-to-out.false)) (omega (arith, c.in_ok-count.ensures.within))
-    (omega (arith, c.put_windows.ensures.length, c.if-to-out.false, c.if-out-to.false))
+    (omega (arith, c.requires.behind, c.requires.near)) (omega (arith, c.in_ok-count.ensures.within))
+    (omega (arith, c.put_windows.ensures.length, c.if-out-to.false))
     (omega (arith, length-drop from bytes, c.in_ok-behind.ensures.inside)) c.put_windows.ensures.front

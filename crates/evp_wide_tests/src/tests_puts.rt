@@ -1,4 +1,4 @@
-ghost use Rattle.std.specs.Prelude.{◌≡◌, ◌<◌, length};
+ghost use Rattle.std.specs.Prelude.{◌≡◌, ◌<◌, ◌≤◌, length};
 
 use evp_base::Order;
 use evp_wide::{near_zero, put_signed, put_text};
@@ -34,7 +34,8 @@ fn a_near_zero_byte_is_found(rt: HostRuntime) -> Result<(), Fail> {
 
 // Writes a text of so many letters, in fifty bytes, behind three bytes and a gap of two.
 fn write_text(out: &mut [u8], letters: usize) -> Option<usize>
-    requires { letters < 50 }
+    requires letters { letters < 50 }
+    requires room { 3 ≤ length out.old }
     ensures { length out.new ≡ length out.old }
 {
     let mut bytes = [7; 50];

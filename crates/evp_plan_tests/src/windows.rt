@@ -55,7 +55,11 @@ fn windows_tell_numbers(rt: HostRuntime) -> Result<(), Fail> {
             .ok_or("plan")?;
         let tests = plan.quick();
         let shown = format!(in alloc; "{tests:?}")?;
-        assert_eq!(rt; shown.split("Window {").skip(1).count(), windows, "{profile}");
+        assert_eq!(rt;
+            shown.split("Window {").skip(1).count(),
+            windows,
+            "{profile}"
+        );
     }
     Ok(())
 }

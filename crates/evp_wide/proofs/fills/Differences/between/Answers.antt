@@ -1,4 +1,4 @@
-use Rattle.std.proofs.Common.{drop, arith, ap, ◌∙◌, sym}
+use Rattle.std.proofs.Common.{drop, arith}
 use Rattle.evp_wide.specs.Gathered.{gathered, signs_gathered}
 use Rattle.evp_wide.proofs.Blocks.{places_of}
 use Rattle.evp_wide.proofs.Gathers.{allowed}

@@ -67,3 +67,12 @@ pub pairs_fit : (n reach at t long room : ℕ) (pairs items : List Pair) → pai
 pairs_fit n reach at t long room pairs items is within reaches fits = λ k d below.
     (let here = subst (λ (ps : List Pair). All (IsPairWithin n reach) ps) (sym is) within k d below in
     (omega (arith, here.0.1, reaches), (omega (arith, here.1.1, reaches), omega (arith, here.0.0, fits))))
+
+-- the same of two that are all
+pub both_fit : (n reach at t long room : ℕ) (one two : Pair) (items : List Pair) → items ≡ one ∷ two ∷ []
+    → All (IsPairWithin n reach) items → at + reach ≤ long → t + n ≤ room
+    → ((at + one.one.at + 16 ≤ long) × ((at + one.two.at + 16 ≤ long) × (t + one.one.to + 16 ≤ room)))
+    × ((at + two.one.at + 16 ≤ long) × ((at + two.two.at + 16 ≤ long) × (t + two.one.to + 16 ≤ room)))
+both_fit n reach at t long room one two items is within reaches fits =
+    let all = pairs_fit n reach at t long room (one ∷ two ∷ []) items (sym is) within reaches fits in
+    (all 0 one (omega arith), all 1 two (omega arith))

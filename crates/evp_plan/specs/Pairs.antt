@@ -1,6 +1,7 @@
 -- Gathers that are run two at once.
-use Rattle.std.specs.Prelude.{List, [], ◌∷◌}
+use Rattle.std.specs.Prelude.{◌≡◌, List, [], ◌∷◌, length}
 use Rattle.evp_plan.specs.declared.cell.Cell.{Cell}
+use Rattle.evp_plan.specs.declared.gather.Both.{Both}
 use Rattle.evp_plan.specs.declared.gather.Gather.{Gather}
 use Rattle.evp_plan.specs.declared.gather.Gathers.{Gathers}
 use Rattle.evp_plan.specs.declared.gather.Pair.{Pair}
@@ -19,3 +20,8 @@ pair_cells pair = laid_over (gather_cells pair.two) (gather_cells pair.one)
 abbrev pub all_over : Gathers → List Cell → List Cell
 all_over gathers cells = gathers_over gathers.mixed.items
     (gathers_over (in_pairs gathers.pairs.items) (gathers_over gathers.plain.items cells))
+
+-- these two are all pairs, and nothing stands behind them
+pub record AreBoth (gathers : Gathers) (both : Both) : Type 0 where
+  pub pairs : gathers.pairs.items ≡ both.one ∷ both.two ∷ []
+  pub no_mixed : length gathers.mixed.items ≡ 0

@@ -2,8 +2,9 @@
 
 ghost use Rattle.std.specs.Prelude.{◌≡◌, ◌+◌, ◌*◌, ◌≤◌, true, length, take, drop, IfOk, IfSome};
 ghost use Rattle.evp_plan.specs.Fours.{in_fours, AreOnlyPlain, AreOnlyFours, AreTwo};
+ghost use Rattle.evp_plan.specs.Pairs.{AreBoth};
 
-use crate::gather::{Four, Gather, Gathers, Two};
+use crate::gather::{Both, Four, Gather, Gathers, Two};
 use evp_base::Memory;
 use std::alloc::Global;
 
@@ -95,6 +96,19 @@ pub(crate) fn are_only_fours(gathers: &Gathers, rest: &[Gather]) -> bool
         return false;
     }
     are_only_plain(gathers)
+}
+
+// The pairs, where they are two and nothing stands behind them.
+pub(crate) fn both_of(gathers: &Gathers) -> Option<Both>
+    ensures { IfSome result (AreBoth gathers.now) }
+{
+    if gathers.pairs.len() != 2 || gathers.mixed.len() != 0 {
+        return None;
+    }
+    Some(Both {
+        one: gathers.pairs[0],
+        two: gathers.pairs[1],
+    })
 }
 
 // The plain gathers, where they are two.

@@ -55,6 +55,13 @@ pub(crate) struct Four {
     ghost at: { (two.at ≡ one.at + 16) × ((three.at ≡ one.at + 32) × (four.at ≡ one.at + 48)) },
 }
 
+// The two pairs of a record that has no others.
+#[derive(Clone, Copy, Debug)]
+pub(crate) struct Both {
+    pub(crate) one: Pair,
+    pub(crate) two: Pair,
+}
+
 // Two plain gathers of a record that has no others.
 #[derive(Clone, Copy, Debug)]
 pub(crate) struct Two {

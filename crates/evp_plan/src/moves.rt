@@ -7,11 +7,11 @@ ghost use Rattle.evp_plan.specs.Cells.{IsWholeOf, AreMovesOf};
 ghost use Rattle.evp_plan.specs.Laid.{AreCellsOf};
 
 use crate::compiling::{MOST, are_same, end_of, filled, lay_all, lay_steps, reach_of};
-use crate::fours::{are_only_fours, are_only_plain, fours_of, gathers_from, two_of};
-use crate::gather::{Four, Gather, Gathers, Two};
+use crate::fours::{are_only_fours, are_only_plain, both_of, fours_of, gathers_from, two_of};
+use crate::gather::{Both, Four, Gather, Gathers, Two};
 use crate::gathering::gathers_for;
 use crate::running::{run_gathers, run_gathers_each, run_in_fours, run_two};
-use crate::running_pairs::{run_behind, run_pairs_each};
+use crate::running_pairs::{run_behind, run_both, run_pairs_each};
 use crate::{Cell, Series, Step, Steps};
 use evp_base::{Memory, Order};
 use std::alloc::Global;
@@ -26,6 +26,8 @@ pub struct Moves {
     rest: Vec<Gather>,
     // The plain gathers, where they are two.
     two: Option<Two>,
+    // The pairs, where they are two and the last there is.
+    both: Option<Both>,
     // Whether the plain gathers are all there is.
     only_plain: bool,
     // Whether the fours are.
@@ -39,7 +41,7 @@ impl Model for Moves {
     ghost use Rattle.evp_plan.specs.declared.cell.Cell.TheVariants.{Keep};
     ghost use Rattle.evp_plan.specs.Cells.{Moving, AreWithin};
     ghost use Rattle.evp_plan.specs.Fours.{AreParted, AreOnlyPlain, AreOnlyFours, AreTwo};
-    ghost use Rattle.evp_plan.specs.Pairs.{all_over};
+    ghost use Rattle.evp_plan.specs.Pairs.{all_over, AreBoth};
 
     ghost Value = { Moving };
 
@@ -52,7 +54,8 @@ impl Model for Moves {
         × (AreParted m.gathers.plain.items m.fours.items m.rest.items
         × ((m.only_plain ≡ true → AreOnlyPlain m.gathers)
         × ((m.only_fours ≡ true → AreOnlyFours m.gathers m.rest.items)
-        × IfSome m.two (AreTwo m.gathers.plain.items)))) };
+        × (IfSome m.two (AreTwo m.gathers.plain.items)
+        × IfSome m.both (AreBoth m.gathers))))) };
 }
 
 impl Moves {
@@ -83,6 +86,10 @@ impl Moves {
             Some(two) => {
                 run_two(two, out, t, from, at);
                 if self.only_plain {
+                    return;
+                }
+                if let Some(both) = &self.both {
+                    run_both(both, out, t, from, at);
                     return;
                 }
             }
@@ -152,6 +159,7 @@ fn moves_over(
     let fours = fours_of(alloc, gathers.plain.as_slice())?;
     let rest = gathers_from(alloc, gathers.plain.as_slice(), fours.len() * 4)?;
     let two = two_of(gathers.plain.as_slice());
+    let both = both_of(&gathers);
     let only_plain = are_only_plain(&gathers);
     let only_fours = are_only_fours(&gathers, rest.as_slice());
     Ok(Some(Moves {
@@ -159,6 +167,7 @@ fn moves_over(
         fours,
         rest,
         two,
+        both,
         only_plain,
         only_fours,
         length: count,

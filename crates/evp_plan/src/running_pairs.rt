@@ -1,12 +1,12 @@
 //! Pairs of gathers run one after another, for one record and for records side by side.
 
-ghost use Rattle.std.specs.Prelude.{◌≡◌, ◌+◌, ◌*◌, ◌≤◌, ◌<◌, ℕ, length};
+ghost use Rattle.std.specs.Prelude.{◌≡◌, ◌+◌, ◌*◌, ◌≤◌, ◌<◌, ◌∷◌, [], ℕ, length};
 ghost use Rattle.std.specs.List.{All};
 ghost use Rattle.evp_plan.specs.Cells.{painted_at, painted_each, gathered_at, gathered_each};
 ghost use Rattle.evp_plan.specs.Pairs.{in_pairs, pair_cells};
 
 use crate::Series;
-use crate::gather::{Gathers, Pair};
+use crate::gather::{Both, Gathers, Pair};
 use crate::running::run_gathers;
 use evp_wide::{gather_two, gather_with_signs};
 
@@ -27,6 +27,22 @@ fn run_pair(pair: &Pair, out: &mut [u8], t: usize, from: &[u8], at: usize)
         return;
     }
     gather_two(out, to, from, first, mask, second, other);
+}
+
+// Runs two pairs one after the other.
+#[inline(always)]
+pub(crate) fn run_both(both: &Both, out: &mut [u8], t: usize, from: &[u8], at: usize)
+    requires first { (at + both.now.one.one.at + 16 ≤ length from.now)
+        × ((at + both.now.one.two.at + 16 ≤ length from.now)
+        × (t + both.now.one.one.to + 16 ≤ length out.old)) }
+    requires second { (at + both.now.two.one.at + 16 ≤ length from.now)
+        × ((at + both.now.two.two.at + 16 ≤ length from.now)
+        × (t + both.now.two.one.to + 16 ≤ length out.old)) }
+    ensures { out.new ≡ gathered_at from.now at t
+        (in_pairs (both.now.one ∷ both.now.two ∷ [])) out.old }
+{
+    run_pair(&both.one, out, t, from, at);
+    run_pair(&both.two, out, t, from, at);
 }
 
 // Runs pairs one after another.

@@ -2,16 +2,18 @@ use Rattle.std.proofs.Common.{◌≡◌, List, length, true, refl, sym, ap, subs
 use Rattle.std.specs.List.{All}
 use Rattle.evp_format.proofs.Descriptions.{bytes_are}
 use Rattle.evp_plan.specs.Cells.{Moving, gathered_at, IsGatherWithin}
+use Rattle.evp_plan.specs.declared.gather.Both.{Both}
 use Rattle.evp_plan.specs.declared.gather.Four.{Four}
 use Rattle.evp_plan.specs.declared.gather.Gather.{Gather}
+use Rattle.evp_plan.specs.declared.gather.Pair.{Pair}
 use Rattle.evp_plan.specs.declared.gather.Two.{Two}
 use Rattle.evp_plan.specs.Fours.{in_fours, AreTwo}
-use Rattle.evp_plan.specs.Pairs.{in_pairs}
-use Rattle.evp_plan.proofs.AllGathers.{all_gathers, cells_long, pairs_fit}
+use Rattle.evp_plan.specs.Pairs.{in_pairs, AreBoth}
+use Rattle.evp_plan.proofs.AllGathers.{all_gathers, both_fit, cells_long, pairs_fit}
 use Rattle.evp_plan.proofs.FourLists.{both_parts, fours_fit, two_fit, rest_all, no_gathers, no_pairs}
 use Rattle.evp_plan.proofs.Gathered.{all_fit}
 use Rattle.evp_plan.proofs.moves.Moves.run.Goals as goal
-use Rattle.evp_plan.proofs.moves.Moves.run.Goals.{in-Some+else-self, in-None+else-self-2}
+use Rattle.evp_plan.proofs.moves.Moves.run.Goals.{in-Some+else-self+in_default, in-None+else-self-2}
 
 pub run_two-requires-clause-first : goal.run_two-requires-clause-first
 run_two-requires-clause-first c =
@@ -21,7 +23,7 @@ run_two-requires-clause-first c =
     let reach = ap (λ (m : Moving). m.reach) c.self.view_is in
     let reaches = c.requires.reach in
     let fits = c.requires.room in
-    let are = subst (λ (o : Option Two). IfSome o (AreTwo m.gathers.plain.items)) c.in-Some.is c.self.invariant.1.1.1.1 in
+    let are = subst (λ (o : Option Two). IfSome o (AreTwo m.gathers.plain.items)) c.in-Some.is c.self.invariant.1.1.1.1.0 in
     (two_fit m.length m.reach c.args.at c.args.t (length c.args.from.now) (length c.args.out.now) two.one two.two m.gathers.plain.items
     are c.self.invariant.0.first (omega (arith, reach, reaches)) (omega (arith, long, fits))).0
 
@@ -33,7 +35,7 @@ run_two-requires-clause-second c =
     let reach = ap (λ (m : Moving). m.reach) c.self.view_is in
     let reaches = c.requires.reach in
     let fits = c.requires.room in
-    let are = subst (λ (o : Option Two). IfSome o (AreTwo m.gathers.plain.items)) c.in-Some.is c.self.invariant.1.1.1.1 in
+    let are = subst (λ (o : Option Two). IfSome o (AreTwo m.gathers.plain.items)) c.in-Some.is c.self.invariant.1.1.1.1.0 in
     (two_fit m.length m.reach c.args.at c.args.t (length c.args.from.now) (length c.args.out.now) two.one two.two m.gathers.plain.items
     are c.self.invariant.0.first (omega (arith, reach, reaches)) (omega (arith, long, fits))).1
 
@@ -46,7 +48,7 @@ returns-then-self-clause-made c =
     let is = sym (ap (λ (m : Moving). m.cells) c.self.view_is) in
     let long = cells_long c.args.self.now.cells m.gathers m.length is in
     let fits = c.requires.room in
-    let are = subst (λ (o : Option Two). IfSome o (AreTwo m.gathers.plain.items)) c.in-Some.is c.self.invariant.1.1.1.1 in
+    let are = subst (λ (o : Option Two). IfSome o (AreTwo m.gathers.plain.items)) c.in-Some.is c.self.invariant.1.1.1.1.0 in
     let only = c.self.invariant.1.1.0 c.if-self.true in
     let out = c.run_two.new.out in
     let plain = c.run_two.ensures ∙ ap (λ (gs : List Gather). gathered_at from at t gs c.args.out.now) (sym are) in
@@ -56,6 +58,53 @@ returns-then-self-clause-made c =
 
 pub returns-then-self-clause-bytes : goal.returns-then-self-clause-bytes
 returns-then-self-clause-bytes c = bytes_are c.args.from.now (λ k. omega (arith, c.type_inv.from k))
+
+pub run_both-requires-clause-first : goal.run_both-requires-clause-first
+run_both-requires-clause-first c =
+    let m = c.self.inside in
+    let both = c.in-Some-both.both in
+    let long = cells_long c.args.self.now.cells m.gathers m.length (sym (ap (λ (m : Moving). m.cells) c.self.view_is)) in
+    let reach = ap (λ (m : Moving). m.reach) c.self.view_is in
+    let reaches = c.requires.reach in
+    let fits = c.requires.room in
+    let same = c.run_two.auto.out in
+    let are = subst (λ (o : Option Both). IfSome o (AreBoth m.gathers)) c.in-Some-both.is c.self.invariant.1.1.1.1.1 in
+    (both_fit m.length m.reach c.args.at c.args.t (length c.args.from.now) (length c.run_two.new.out) both.one both.two
+    m.gathers.pairs.items are.pairs c.self.invariant.0.second (omega (arith, reach, reaches)) (omega (arith, long, fits, same))).0
+
+pub run_both-requires-clause-second : goal.run_both-requires-clause-second
+run_both-requires-clause-second c =
+    let m = c.self.inside in
+    let both = c.in-Some-both.both in
+    let long = cells_long c.args.self.now.cells m.gathers m.length (sym (ap (λ (m : Moving). m.cells) c.self.view_is)) in
+    let reach = ap (λ (m : Moving). m.reach) c.self.view_is in
+    let reaches = c.requires.reach in
+    let fits = c.requires.room in
+    let same = c.run_two.auto.out in
+    let are = subst (λ (o : Option Both). IfSome o (AreBoth m.gathers)) c.in-Some-both.is c.self.invariant.1.1.1.1.1 in
+    (both_fit m.length m.reach c.args.at c.args.t (length c.args.from.now) (length c.run_two.new.out) both.one both.two
+    m.gathers.pairs.items are.pairs c.self.invariant.0.second (omega (arith, reach, reaches)) (omega (arith, long, fits, same))).1
+
+pub returns-in-Some-both-clause-made : goal.returns-in-Some-both-clause-made
+returns-in-Some-both-clause-made c =
+    let m = c.self.inside in
+    let from = c.args.from.now in
+    let at = c.args.at in
+    let t = c.args.t in
+    let is = sym (ap (λ (m : Moving). m.cells) c.self.view_is) in
+    let long = cells_long c.args.self.now.cells m.gathers m.length is in
+    let fits = c.requires.room in
+    let two = subst (λ (o : Option Two). IfSome o (AreTwo m.gathers.plain.items)) c.in-Some.is c.self.invariant.1.1.1.1.0 in
+    let are = subst (λ (o : Option Both). IfSome o (AreBoth m.gathers)) c.in-Some-both.is c.self.invariant.1.1.1.1.1 in
+    let out = c.run_both.new.out in
+    let plain = c.run_two.ensures ∙ ap (λ (gs : List Gather). gathered_at from at t gs c.args.out.now) (sym two) in
+    let pairs = c.run_both.ensures
+    ∙ ap (λ (ps : List Pair). gathered_at from at t (in_pairs ps) c.run_two.new.out) (sym are.pairs) in
+    all_gathers from at t m.length m.reach m.gathers c.args.self.now.cells c.args.out.now c.run_two.new.out out out is
+    c.self.invariant.0 (omega (arith, long, fits)) plain pairs (no_gathers from at t m.gathers.mixed.items out are.no_mixed)
+
+pub returns-in-Some-both-clause-bytes : goal.returns-in-Some-both-clause-bytes
+returns-in-Some-both-clause-bytes c = bytes_are c.args.from.now (λ k. omega (arith, c.type_inv.from k))
 
 pub run_in_fours-requires : goal.run_in_fours-requires
 run_in_fours-requires c =
@@ -143,8 +192,8 @@ returns-clause-made c =
     let long = cells_long c.args.self.now.cells m.gathers m.length is in
     let fits = c.requires.room in
     let plain : c.match-self.out ≡ gathered_at from at t m.gathers.plain.items old = elim c.match-self.branch [
-      | in-Some+else-self w ↦
-          let are = subst (λ (o : Option Two). IfSome o (AreTwo m.gathers.plain.items)) w.in-Some.is c.self.invariant.1.1.1.1 in
+      | in-Some+else-self+in_default w ↦
+          let are = subst (λ (o : Option Two). IfSome o (AreTwo m.gathers.plain.items)) w.in-Some.is c.self.invariant.1.1.1.1.0 in
           w.out-is ∙ w.run_two.ensures ∙ ap (λ (gs : List Gather). gathered_at from at t gs old) (sym are)
       | in-None+else-self-2 w ↦
           let fours = w.run_in_fours.ensures

@@ -10,7 +10,7 @@ use crate::compiling::{MOST, are_same, end_of, filled, lay_all, lay_steps, reach
 use crate::fours::{are_only_fours, are_only_plain, both_of, fours_of, gathers_from, two_of};
 use crate::gather::{Both, Four, Gather, Gathers, Two};
 use crate::gathering::gathers_for;
-use crate::running::{run_gathers, run_gathers_each, run_in_fours, run_two};
+use crate::running::{run_gathers_each, run_in_fours, run_rest, run_two};
 use crate::running_pairs::{run_behind, run_both, run_pairs_each};
 use crate::{Cell, Series, Step, Steps};
 use evp_base::{Memory, Order};
@@ -98,7 +98,7 @@ impl Moves {
                 if self.only_fours {
                     return;
                 }
-                run_gathers(self.rest.as_slice(), true, out, t, from, at);
+                run_rest(self.rest.as_slice(), out, t, from, at);
             }
         }
         run_behind(&self.gathers, out, t, from, at);

@@ -121,6 +121,17 @@ pub(crate) fn run_gathers(
     }
 }
 
+// Runs plain gathers one after another, apart from its callers.
+#[inline(never)]
+pub(crate) fn run_rest(gathers: &[Gather], out: &mut [u8], t: usize, from: &[u8], at: usize)
+    requires plain { All (λ gather. gather.plain ≡ true) gathers.now }
+    requires within { All (λ gather. (at + gather.at + 16 ≤ length from.now)
+        × (t + gather.to + 16 ≤ length out.old)) gathers.now }
+    ensures { out.new ≡ gathered_at from.now at t gathers.now out.old }
+{
+    run_gathers(gathers, true, out, t, from, at);
+}
+
 // Makes sixteen bytes of record k of `out`, from that of the sender's.
 #[inline(always)]
 fn run_record(

@@ -58,8 +58,9 @@ pub(crate) fn run_pairs(pairs: &[Pair], out: &mut [u8], t: usize, from: &[u8], a
     }
 }
 
-// Runs what stands behind the plain gathers of a record.
-#[inline(always)]
+// Runs what stands behind the plain gathers of a record. Apart from its callers, which hold what most
+// records have.
+#[inline(never)]
 pub(crate) fn run_behind(gathers: &Gathers, out: &mut [u8], t: usize, from: &[u8], at: usize)
     requires pairs { All (λ pair. (at + pair.one.at + 16 ≤ length from.now)
         × ((at + pair.two.at + 16 ≤ length from.now)

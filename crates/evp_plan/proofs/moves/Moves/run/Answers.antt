@@ -139,15 +139,15 @@ returns-then-self-2-clause-made c =
 pub returns-then-self-2-clause-bytes : goal.returns-then-self-2-clause-bytes
 returns-then-self-2-clause-bytes c = bytes_are c.args.from.now (λ k. omega (arith, c.type_inv.from k))
 
-pub run_gathers-requires-clause-plain : goal.run_gathers-requires-clause-plain
-run_gathers-requires-clause-plain c = λ _.
+pub run_rest-requires-clause-plain : goal.run_rest-requires-clause-plain
+run_rest-requires-clause-plain c =
     let m = c.self.inside in
     let Plain : Gather → Type 0 = λ gather. gather.plain ≡ true in
     subst (λ (gs : List Gather). All Plain gs) (sym c.as_slice-in-None.ensures.value)
     (rest_all Plain m.gathers.plain.items m.rest.items m.fours.items c.self.invariant.1.0 c.self.invariant.0.plain)
 
-pub run_gathers-requires-clause-within : goal.run_gathers-requires-clause-within
-run_gathers-requires-clause-within c =
+pub run_rest-requires-clause-within : goal.run_rest-requires-clause-within
+run_rest-requires-clause-within c =
     let m = c.self.inside in
     let long = cells_long c.args.self.now.cells m.gathers m.length (sym (ap (λ (m : Moving). m.cells) c.self.view_is)) in
     let reach = ap (λ (m : Moving). m.reach) c.self.view_is in
@@ -198,10 +198,10 @@ returns-clause-made c =
       | in-None+else-self-2 w ↦
           let fours = w.run_in_fours.ensures
           ∙ ap (λ (fs : List Four). gathered_at from at t (in_fours fs) old) w.as_slice.ensures.value in
-          let rest = w.run_gathers.ensures
+          let rest = w.run_rest.ensures
           ∙ ap (λ (gs : List Gather). gathered_at from at t gs w.run_in_fours.new.out) w.as_slice-in-None.ensures.value in
           w.out-is ∙ both_parts from at t m.gathers.plain.items m.rest.items m.fours.items old w.run_in_fours.new.out
-          w.run_gathers.new.out c.self.invariant.1.0 fours rest
+          w.run_rest.new.out c.self.invariant.1.0 fours rest
     ] in
     let behind = gathered_at from at t (in_pairs m.gathers.pairs.items) c.match-self.out in
     all_gathers from at t m.length m.reach m.gathers c.args.self.now.cells old c.match-self.out behind c.run_behind.new.out is

@@ -1,12 +1,17 @@
 -- Windows of sixteen bytes in which bytes are compared with signs.
-use Rattle.std.specs.Prelude.{◌≡◌, ℕ, ◌+◌, ◌<◌, ◌≤◌, List, length, drop, Option, IfSome}
+use Rattle.std.specs.Prelude.{◌≡◌, ℕ, ◌+◌, ◌<◌, ◌≤◌, List, ◌∷◌, length, drop, Option, IfSome}
 use Rattle.std.specs.List.{All}
 use Rattle.evp_base.specs.declared.order.Order.{Order}
 use Rattle.evp_wide.specs.Gathered.{picked, gathered, signs_gathered}
 use Rattle.evp_plan.specs.declared.fill.Window.{Window}
 use Rattle.evp_plan.specs.declared.quick.Quick.{Quick}
+use Rattle.evp_plan.specs.declared.told.Told.{Told}
 use Rattle.evp_plan.specs.Quicks.{IsInside}
 use Rattle.evp_plan.specs.Fills.{byte_there, AreBytes, AreWordsInside, AreWordsThere}
+
+-- all of them, one after another
+abbrev pub windows_of : Told → List Window
+windows_of told = told.one ∷ told.two ∷ told.three ∷ told.four ∷ told.rest.items
 
 -- each byte that the window's one mask picks is the sign of the byte that the other picks
 abbrev pub HasFills : ℕ → List ℕ → Window → Type 0

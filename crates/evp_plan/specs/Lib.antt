@@ -21,4 +21,5 @@ pub mod Quiet
 pub mod Ready
 pub mod Sound
 pub mod Standing
+pub mod Telling
 pub mod Words

@@ -8,7 +8,7 @@ ghost use Rattle.evp_plan.specs.Lanes.{HasFills, HaveFills, AreInside, AreLanesO
 use crate::Quick;
 use crate::cutting::fills_of;
 use crate::fill::{Fill, Lanes, Window};
-use crate::windows::{place_in, reach_of, windows_for};
+use crate::windows::{filled_up, place_in, reach_of, windows_for};
 use evp_base::{Memory, Order};
 use evp_wide::Differences;
 use std::alloc::Global;
@@ -78,7 +78,7 @@ fn differences(window: &Window, bytes: &[u8], at: usize) -> Differences
 
 // The same of two windows.
 #[inline(always)]
-fn both_differences(one: &Window, two: &Window, bytes: &[u8], at: usize) -> Differences
+pub(crate) fn both_differences(one: &Window, two: &Window, bytes: &[u8], at: usize) -> Differences
     requires one { at + one.now.at + 16 ≤ length bytes.now }
     requires two { at + two.now.at + 16 ≤ length bytes.now }
     ensures { AreNone result → HasFills at bytes.now one.now × HasFills at bytes.now two.now }
@@ -107,7 +107,7 @@ pub(crate) fn have_fills(windows: &[Window], bytes: &[u8], at: usize) -> bool
 // Whether there are none of these differences, and the windows of the record at `at` have their
 // fills.
 #[inline(always)]
-fn have_few(windows: &[Window], bytes: &[u8], at: usize, others: Differences) -> bool
+pub(crate) fn have_few(windows: &[Window], bytes: &[u8], at: usize, others: Differences) -> bool
     requires { AreInside at bytes.now windows.now }
     ensures none { IsTrue result → AreNone others }
     ensures fills { IsTrue result → HaveFills at bytes.now windows.now }
@@ -120,14 +120,18 @@ fn have_few(windows: &[Window], bytes: &[u8], at: usize, others: Differences) ->
 }
 
 // Windows that tell the words of these tests, of a sender of this order, where there are fewer than
-// tests.
+// tests: so many at least, of which up to half are the first of them again.
 pub(crate) fn lanes_of(
     alloc: Global,
     order: Order,
     tests: &[Quick],
+    least: usize,
 ) -> Result<Option<Lanes>, Memory>
-    ensures { IfOk result (λ made. IfSome made (λ lanes.
+    requires { 1 ≤ least }
+    ensures lanes { IfOk result (λ made. IfSome made (λ lanes.
         (lanes.order ≡ order) × AreLanesOf order tests.now lanes.windows.items)) }
+    ensures least { IfOk result (λ made. IfSome made (λ lanes.
+        least ≤ length lanes.windows.items)) }
 {
     let reach = reach_of(tests);
     if reach < 16 {
@@ -137,7 +141,11 @@ pub(crate) fn lanes_of(
         return Ok(None);
     };
     let windows = windows_for(alloc, fills.clone()?, reach)?;
-    if windows.len() >= tests.len() || !are_looked_at(windows.as_slice(), fills.as_slice()) {
+    if windows.len() >= tests.len() || windows.len() * 2 < least {
+        return Ok(None);
+    }
+    let windows = filled_up(windows, least)?;
+    if !are_looked_at(windows.as_slice(), fills.as_slice()) {
         return Ok(None);
     }
     Ok(Some(Lanes { order, windows }))

@@ -28,6 +28,7 @@ mod running_pairs;
 mod series;
 mod step;
 mod table;
+mod told;
 mod windows;
 mod words;
 

@@ -1,14 +1,16 @@
 //! Plans.
 
-ghost use Rattle.std.specs.Prelude.{◌≡◌, ◌<◌, ◌≤◌, [], length, get_or, IfOk, IfSome};
+ghost use Rattle.std.specs.Prelude.{◌≡◌, ◌<◌, ◌≤◌, [], length, get_or, IsTrue, IfOk, IfSome};
 ghost use Rattle.evp_plan.specs.Cells.{IsMovesOf, IsWholeOf};
 ghost use Rattle.evp_plan.specs.Laid.{IsLaidOf, IsLaidBetween};
 ghost use Rattle.evp_plan.specs.Program.{IsOrdered, programs, last_steps};
 ghost use Rattle.evp_plan.specs.Quiet.{tests_of};
 ghost use Rattle.evp_plan.specs.Quicks.{steps_in};
+ghost use Rattle.evp_plan.specs.Telling.{AreNumbersThere, AreTestsInside};
 
 use crate::moves::{all_moves, whole_of};
 use crate::quiet::tests_in;
+use crate::told::{Told, told_of};
 use crate::{Laid, Moves, QuickTests, Step, Steps};
 use evp_base::{Memory, Order};
 use evp_format::Format;
@@ -36,18 +38,21 @@ pub struct Plan {
     tests: Vec<Steps>,
     // Those of the last list, with quick tests.
     quick: QuickTests,
+    // Windows that tell of these, where all are of numbers.
+    told: Option<Told>,
     // What makes all of the record without a look at its steps, where it is so simple.
     laid: Option<Laid>,
 }
 
 impl Model for Plan {
-    ghost use Rattle.std.specs.Prelude.{◌≡◌, ◌≤◌, length, IfSome};
+    ghost use Rattle.std.specs.Prelude.{◌≡◌, ◌≤◌, true, length, IfSome};
     ghost use Rattle.evp_plan.specs.Planned.{Planned};
     ghost use Rattle.evp_plan.specs.Program.{IsOrdered, programs, last_steps};
     ghost use Rattle.evp_plan.specs.Cells.{AreMovesOf, IsWholeOf};
     ghost use Rattle.evp_plan.specs.Laid.{IsLaidOf, IsLaidBetween};
+    ghost use Rattle.evp_plan.specs.Lanes.{windows_of, AreLanesOf};
     ghost use Rattle.evp_plan.specs.Quiet.{tests_in};
-    ghost use Rattle.evp_plan.specs.Quicks.{steps_in};
+    ghost use Rattle.evp_plan.specs.Quicks.{steps_in, have_words};
 
     ghost Value = { Planned };
 
@@ -66,9 +71,11 @@ impl Model for Plan {
         × (IfSome p.whole (IsWholeOf p.sender p.order (last_steps p.table.items))
         × ((p.tests.items ≡ tests_in p.table.items)
         × ((steps_in p.quick ≡ last_steps p.tests.items)
-        × IfSome p.laid (λ laid. IsLaidOf p.sender p.order (programs p.table.items)
+        × (IfSome p.laid (λ laid. IsLaidOf p.sender p.order (programs p.table.items)
         (last_steps p.table.items) laid
-        × IsLaidBetween p.room p.fixed p.sender_pointer p.pointer laid)))))) };
+        × IsLaidBetween p.room p.fixed p.sender_pointer p.pointer laid)
+        × IfSome p.told (λ told. (have_words p.quick ≡ true)
+        × AreLanesOf p.sender p.quick (windows_of told)))))))) };
 }
 
 // The last list of steps.
@@ -103,6 +110,7 @@ impl Plan {
         let whole = whole_of(alloc, order, sender, last, fixed)?;
         let tests = tests_in(alloc, table.as_slice())?;
         let quick = QuickTests::of_steps(alloc, sender, last_list(tests.as_slice()))?;
+        let told = told_of(alloc, sender, &quick)?;
         let laid = Laid::of_steps(alloc, from, to, last, last_list(tests.as_slice()))?;
         Ok(Plan {
             order,
@@ -117,6 +125,7 @@ impl Plan {
             whole,
             tests,
             quick,
+            told,
             laid,
         })
     }
@@ -171,6 +180,20 @@ impl Plan {
         ensures some { 1 ≤ length self.now.table }
     {
         &self.quick
+    }
+
+    /// Whether each of these tests is of a number, and windows alone tell that its word in the
+    /// sender's record, which begins with the first byte, is one that fits. Takes no memory.
+    #[inline(always)]
+    pub fn is_told(&self, bytes: &[u8]) -> bool
+        requires { AreTestsInside self.now bytes.now }
+        ensures { IsTrue result → AreNumbersThere self.now bytes.now }
+    {
+        let _tests = self.quick.as_slice();
+        match &self.told {
+            Some(told) => told.have_fills(bytes, 0),
+            None => false,
+        }
     }
 
     /// Whether the two formats are equal.

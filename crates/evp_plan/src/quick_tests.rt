@@ -1,6 +1,6 @@
 //! Quick tests of a list of steps.
 
-ghost use Rattle.std.specs.Prelude.{◌≡◌, ◌+◌, ◌≤◌, true, length, IsTrue, IfOk, IfSome};
+ghost use Rattle.std.specs.Prelude.{◌≡◌, ◌+◌, ◌≤◌, length, IsTrue, IfOk, IfSome};
 ghost use Rattle.std.specs.List.{All};
 ghost use Rattle.evp_plan.specs.Lanes.{AreLanesOf};
 ghost use Rattle.evp_plan.specs.Quicks.{steps_in, words_in, has_words, have_words};
@@ -25,14 +25,12 @@ pub struct QuickTests {
     eights: Vec<Words>,
     // Whether all of them have words.
     numbers: bool,
-    // Windows that tell their words, where there are such: those of lists that have other tests too,
-    // and those of lists whose tests are all of numbers.
+    // Windows that tell their words, where there are such and not all are of numbers.
     lanes: Option<Lanes>,
-    sole: Option<Lanes>,
 }
 
 impl Model for QuickTests {
-    ghost use Rattle.std.specs.Prelude.{◌≡◌, List, IfSome, true};
+    ghost use Rattle.std.specs.Prelude.{◌≡◌, List, IfSome};
     ghost use Rattle.std.specs.List.{All};
     ghost use Rattle.evp_plan.specs.declared.quick.Quick.{Quick};
     ghost use Rattle.evp_plan.specs.Lanes.{AreLanesOf};
@@ -48,9 +46,7 @@ impl Model for QuickTests {
         × ((t.fours.items ≡ words_in 4 t.list.items)
         × ((t.eights.items ≡ words_in 8 t.list.items)
         × ((t.numbers ≡ have_words t.list.items)
-        × (IfSome t.lanes (λ lanes. AreLanesOf lanes.order t.list.items lanes.windows.items)
-        × IfSome t.sole (λ lanes. (have_words t.list.items ≡ true)
-        × AreLanesOf lanes.order t.list.items lanes.windows.items))))))) };
+        × IfSome t.lanes (λ lanes. AreLanesOf lanes.order t.list.items lanes.windows.items)))))) };
 }
 
 // Whether words of so many bytes, of each entry, stand in the record at `at`.
@@ -90,18 +86,7 @@ fn mixed_lanes(alloc: Global, order: Order, tests: &[Quick]) -> Result<Option<La
     if have_words(tests) {
         return Ok(None);
     }
-    lanes_of(alloc, order, tests)
-}
-
-// The same of tests that are all of numbers.
-fn sole_lanes(alloc: Global, order: Order, tests: &[Quick]) -> Result<Option<Lanes>, Memory>
-    ensures { IfOk result (λ made. IfSome made (λ lanes. (have_words tests.now ≡ true)
-        × AreLanesOf lanes.order tests.now lanes.windows.items)) }
-{
-    if !have_words(tests) {
-        return Ok(None);
-    }
-    lanes_of(alloc, order, tests)
+    lanes_of(alloc, order, tests, 1)
 }
 
 impl QuickTests {
@@ -117,7 +102,6 @@ impl QuickTests {
             eights: words_in(alloc, 8, list.as_slice())?,
             numbers: have_words(list.as_slice()),
             lanes: mixed_lanes(alloc, order, list.as_slice())?,
-            sole: sole_lanes(alloc, order, list.as_slice())?,
             list,
         })
     }
@@ -150,21 +134,6 @@ impl QuickTests {
         self.each_there(bytes, at, order)
     }
 
-    /// Whether each of them is a number, and windows alone tell that its words stand in the record at
-    /// `at`. Takes no memory.
-    #[inline(always)]
-    pub fn are_told(&self, bytes: &[u8], at: usize, order: Order) -> bool
-        requires { All (λ test. IfSome test.words (IsInside at bytes.now)) self.now }
-        ensures numbers { IsTrue result → have_words self.now ≡ true }
-        ensures there { IsTrue result → All (λ test. IfSome test.words (IsThere at order bytes.now))
-            self.now }
-    {
-        match self.sole_for(order) {
-            Some(windows) => have_fills(windows, bytes, at),
-            None => false,
-        }
-    }
-
     // The windows that tell the words of senders of that order, where there are such beside other
     // tests.
     #[inline(always)]
@@ -172,18 +141,6 @@ impl QuickTests {
         ensures { IfSome result (λ windows. AreLanesOf order self.now windows.now) }
     {
         match &self.lanes {
-            Some(lanes) if lanes.order == order => Some(lanes.windows.as_slice()),
-            _ => None,
-        }
-    }
-
-    // The same where all tests are of numbers.
-    #[inline(always)]
-    fn sole_for(&self, order: Order) -> Option<&[Window]>
-        ensures numbers { IfSome result (λ _. have_words self.now ≡ true) }
-        ensures lanes { IfSome result (λ windows. AreLanesOf order self.now windows.now) }
-    {
-        match &self.sole {
             Some(lanes) if lanes.order == order => Some(lanes.windows.as_slice()),
             _ => None,
         }

@@ -1,6 +1,6 @@
 //! Windows of sixteen bytes in which fills stand.
 
-ghost use Rattle.std.specs.Prelude.{◌≡◌, ◌+◌, ◌≤◌, IfOk, IfSome};
+ghost use Rattle.std.specs.Prelude.{◌≡◌, ◌+◌, ◌≤◌, ℕ, length, IfOk, IfSome};
 ghost use Rattle.std.specs.List.{All};
 ghost use Rattle.evp_wide.specs.Masks.{are_within};
 ghost use Rattle.evp_plan.specs.Lanes.{IsPlaceIn, IsEndOf, IsReachOf};
@@ -121,6 +121,20 @@ pub(crate) fn windows_for(
             windows.push(window)?;
         }
         fills = rest;
+    }
+    Ok(windows)
+}
+
+// These windows, and as often as there are fewer than so many the first of them again.
+pub(crate) fn filled_up(mut windows: Vec<Window>, least: usize) -> Result<Vec<Window>, Memory>
+    requires { 1 ≤ length windows.items }
+    ensures least { IfOk result (λ filled. least ≤ length filled.items) }
+    ensures within { (reach : ℕ) → All (λ window. window.at + 16 ≤ reach) windows.items
+        → IfOk result (λ filled. All (λ window. window.at + 16 ≤ reach) filled.items) }
+{
+    let first = windows[0];
+    if windows.len() < least {
+        windows.resize(least, first)?;
     }
     Ok(windows)
 }

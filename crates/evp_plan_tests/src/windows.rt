@@ -1,4 +1,4 @@
-//! How many windows of sixteen bytes tell numbers, by what a plan shows of its quick tests.
+//! How many windows of sixteen bytes tell numbers, by what a plan shows of itself.
 
 use evp_plain::format_of;
 use evp_plan::{Builds, build};
@@ -16,9 +16,33 @@ const FEWER: &str = "{a integer 4, b integer 2, c integer 1, d integer 4, e inte
     k integer 8, l integer 2}";
 
 // A sender, a receiver, and how many windows there are.
-const ROWS: [(&str, &str, &str, &str, usize); 5] = [
+const ROWS: [(&str, &str, &str, &str, usize); 8] = [
     ("le64 p", NUMBERS, "le64 p", FEWER, 4),
-    ("be64 p", NUMBERS, "be64 p", FEWER, 3),
+    // three, and one of them again
+    ("be64 p", NUMBERS, "be64 p", FEWER, 4),
+    // two, and one of them twice again
+    (
+        "le64 p",
+        "{j integer 8, k integer 8, l integer 8}",
+        "le64 p",
+        "{j integer 2, k integer 2, l integer 2}",
+        4,
+    ),
+    // one alone doesn't tell all tests, but tells numbers among others
+    (
+        "le64 p",
+        "{k integer 8, l integer 8}",
+        "le64 p",
+        "{k integer 2, l integer 2}",
+        0,
+    ),
+    (
+        "le64 p",
+        "{k integer 8, l integer 8, t string}",
+        "le64 p",
+        "{k integer 2, l integer 2, t string}",
+        1,
+    ),
     // no window for one test alone, nor where the words end before the sixteenth byte
     (
         "le64 p",
@@ -53,8 +77,7 @@ fn windows_tell_numbers(rt: HostRuntime) -> Result<(), Fail> {
         let plan = build(alloc, &from, &to, &mut Builds::new())
             .ok()
             .ok_or("plan")?;
-        let tests = plan.quick();
-        let shown = format!(in alloc; "{tests:?}")?;
+        let shown = format!(in alloc; "{plan:?}")?;
         assert_eq!(rt;
             shown.split("Window {").skip(1).count(),
             windows,

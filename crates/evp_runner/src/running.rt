@@ -107,9 +107,8 @@ fn is_told(plan: &Plan, item: &Checked) -> bool
 {
     let _held = item.bytes();
     let sender = sender_of(item);
-    let tests = plan.quick();
-    let _list = tests.as_slice();
-    tests.are_told(sender.bytes, 0, sender.order)
+    let _tests = plan.quick();
+    plan.is_told(sender.bytes)
 }
 
 // The packed size, where the tests of the plan easily show that nothing is refused. It takes the

@@ -58,12 +58,15 @@ invariant_of-result c =
               tests,
               (
                 c.in_ok-quick.ensures ∙ c.last_list.ensures ∙ ap last_steps c.as_slice-4.ensures.value,
-                plan_laid c.in_ok-laid.laid from.order sender to.order c.order-order.result c.last_list-last.result.now
-                    (last_steps table) c.last_list-2.result.now (programs table) (length_of (root_of from)) sent.length
-                    (length_of (root_of to)) root.length from.pointer c.pointer-2.result to.pointer c.pointer.result
-                    c.in_ok-laid.ensures c.order-sender.ensures c.order-order.ensures last tested
-                    (root_length from sent c.root.ensures.laid c.root.ensures.value)
-                    (root_length to root c.root-2.ensures.laid c.root-2.ensures.value) c.pointer-2.ensures c.pointer.ensures,
+                (
+                  plan_laid c.in_ok-laid.laid from.order sender to.order c.order-order.result c.last_list-last.result.now
+                      (last_steps table) c.last_list-2.result.now (programs table) (length_of (root_of from)) sent.length
+                      (length_of (root_of to)) root.length from.pointer c.pointer-2.result to.pointer c.pointer.result
+                      c.in_ok-laid.ensures c.order-sender.ensures c.order-order.ensures last tested
+                      (root_length from sent c.root.ensures.laid c.root.ensures.value)
+                      (root_length to root c.root-2.ensures.laid c.root-2.ensures.value) c.pointer-2.ensures c.pointer.ensures,
+                  c.in_ok-told.ensures,
+                ),
               ),
             ),
           ),

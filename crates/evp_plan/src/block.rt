@@ -3,12 +3,12 @@
 /// From which numbers which are made.
 #[derive(Clone, Copy, Debug, PartialEq, Eq)]
 pub enum Form {
-    /// Signed ones of 2 bytes, made of 8 bytes.
-    TwoToEight,
     /// Signed ones of 4 bytes, made of 8 bytes.
     FourToEight,
     /// Signed ones of 2 bytes, made of 4 bytes.
     TwoToFour,
+    /// Signed ones of 2 bytes, made of 8 bytes.
+    TwoToEight,
 }
 
 /// A counted array of numbers that stand side by side and always fit. Its count has 4 bytes.

@@ -116,9 +116,8 @@ fn size_by(blocks: &[Block], bytes: &[u8], order: Order, fixed: usize, limit: u3
 }
 
 /// The size behind the blocks of a record whose fixed part has so many bytes, where it is easily
-/// found and the limit allows it. Pointers have 8 bytes. Apart from its callers, which would grow too
-/// large to stand in theirs.
-#[inline(never)]
+/// found and the limit allows it. Pointers have 8 bytes.
+#[inline(always)]
 pub(crate) fn laid_size(
     blocks: &[Block],
     bytes: &[u8],

@@ -1,5 +1,5 @@
 -- The leads of worked types.
-use Rattle.std.proofs.Common.{◌≡◌, ℕ, [], ◌∷◌, List, refl}
+use Rattle.std.proofs.Common.{◌≡◌, ℕ, Bool, true, false, [], ◌∷◌, List, map, refl}
 use Rattle.std.specs.Prelude.{pos, codes}
 use Rattle.std.specs.Fmt.{digits}
 use Rattle.evp_base.specs.declared.kind.Kind.TheVariants.{Int, Unsigned}
@@ -16,7 +16,7 @@ use Rattle.evp_format.specs.declared.lead.Run.TheVariants as run
 use Rattle.evp_format.specs.declared.record_type.RecordType.{RecordType}
 use Rattle.evp_format.specs.BrokenText.{broken_text}
 use Rattle.evp_format.specs.Layout.{Layout}
-use Rattle.evp_format.specs.Leads.{leads_of}
+use Rattle.evp_format.specs.Leads.{leads_of, leads_of_root, is_glanced}
 
 abbrev field_of : List ℕ → Base → Shape → ℕ → ℕ → Field
 field_of name base shape size offset = record { name = name; base = base; shape = shape; size = size; offset = offset; fallback = pos 0 }
@@ -74,6 +74,71 @@ of_outer = refl
 -- there is no such type
 of_none : leads_of layout 3 ≡ []
 of_none = refl
+
+-- the leads of the last type are those of the record
+of_root : leads_of_root layout ≡ leads_of layout 2
+of_root = refl
+
+-- ---- what a glance tells of
+
+abbrev with_pointers : ℕ → List RecordType → Layout
+with_pointers pointer types = record { order = Little; pointer = pointer; types = types }
+
+-- a type of these fields behind `n`, a number of so many bytes
+abbrev counted_by : ℕ → List Field → RecordType
+counted_by size fields = record {
+  name = codes "c";
+  length = 32;
+  fields = field_of (codes "n") (Number Unsigned) One size 0 ∷ fields;
+}
+
+abbrev tag_here : Field
+tag_here = field_of (codes "tag") Text One 8 8
+
+-- the record is the last type, behind `s` of `five_fields` and `p` of `plain`
+abbrev glances : List (List Field) → List Bool
+glances rows = map
+    (λ (fields : List Field). is_glanced (with_pointers 8 (five_fields ∷ plain ∷ counted_by 4 fields ∷ [])))
+    rows
+
+-- numbers, a string, an array of numbers, one of records without pointers, a record without, and all of them
+told : glances ([] ∷ (tag_here ∷ [])
+    ∷ (field_of (codes "v") (Number Int) (Counted 0) 2 16 ∷ [])
+    ∷ (field_of (codes "l") (Nested 1) (Counted 0) 8 16 ∷ [])
+    ∷ (field_of (codes "p") (Nested 1) One 8 16 ∷ [])
+    ∷ (tag_here ∷ field_of (codes "v") (Number Int) (Counted 0) 2 16 ∷ field_of (codes "l") (Nested 1) (Counted 0) 8 24 ∷ [])
+    ∷ [])
+    ≡ true ∷ true ∷ true ∷ true ∷ true ∷ true ∷ []
+told = refl
+
+-- two strings side by side, a counted array of strings, a record with pointers, two of them, a counted array of them, and one of
+-- these in front of a string or behind it
+untold : glances ((field_of (codes "t") Text (Fixed 2) 8 8 ∷ [])
+    ∷ (field_of (codes "t") Text (Counted 0) 8 8 ∷ [])
+    ∷ (field_of (codes "s") (Nested 0) One 20 8 ∷ [])
+    ∷ (field_of (codes "s") (Nested 0) (Fixed 2) 20 8 ∷ [])
+    ∷ (field_of (codes "s") (Nested 0) (Counted 0) 20 8 ∷ [])
+    ∷ (field_of (codes "t") Text (Counted 0) 8 16 ∷ tag_here ∷ [])
+    ∷ (tag_here ∷ field_of (codes "t") Text (Counted 0) 8 16 ∷ [])
+    ∷ [])
+    ≡ false ∷ false ∷ false ∷ false ∷ false ∷ false ∷ false ∷ []
+untold = refl
+
+-- an array that is counted in so many bytes
+by_counts : map
+    (λ (size : ℕ). is_glanced (with_pointers 8 (counted_by size (field_of (codes "v") (Number Int) (Counted 0) 2 8 ∷ []) ∷ [])))
+    (1 ∷ 2 ∷ 4 ∷ 8 ∷ [])
+    ≡ false ∷ false ∷ true ∷ false ∷ []
+by_counts = refl
+
+-- pointers of 4 bytes and of 8, with and without leads, and a record that leads on behind one without leads
+by_pointers : is_glanced (with_pointers 4 (five_fields ∷ [])) ∷ is_glanced (with_pointers 8 (five_fields ∷ []))
+    ∷ is_glanced (with_pointers 4 (plain ∷ [])) ∷ is_glanced (with_pointers 8 (plain ∷ []))
+    ∷ is_glanced (with_pointers 8 (five_fields ∷ plain ∷ outer ∷ [])) ∷ []
+    ≡ false ∷ true ∷ false ∷ true ∷ false ∷ []
+by_pointers = refl
+
+-- ---- faults
 
 short : broken_text ShortRecord [] ≡ codes "short record"
 short = refl

@@ -76,6 +76,11 @@ is_led-type layout k type laid found =
     is_led-fields (points_in layout.types) (trees layout.types) type.fields type.fields 0 (λ n. refl)
     ∙ ap has_pointer (sym (tree_of-resolved layout k type laid found))
 
+pub found_get : (types : List RecordType) (n : ℕ) (type : RecordType) → slice_get types n ≡ Some type → get_or types n type ≡ type
+found_get [] n type found = cc
+found_get (first ∷ types) zero type found = cc
+found_get (first ∷ types) (suc n) type found = found_get types n type found
+
 -- what is inside a base that names an earlier type, by the leads of the earlier types
 inside-earlier : (layout : Layout) (k : ℕ) (base : Base) (size : ℕ) → IsWellLaid layout → k < length layout.types
     → HasBaseSize layout.pointer (take k layout.types) base size
@@ -92,11 +97,6 @@ inside-earlier layout k (Nested n) size laid below sized =
     ∙ ap leads_by_type (found_get (take k layout.types) n sized.0 sized.1))
     ∙ is_led-type layout n sized.0 laid there in
     ap (λ r. if r then inside.Record n else inside.Plain) told
-  where
-    found_get : (types : List RecordType) (n : ℕ) (type : RecordType) → slice_get types n ≡ Some type → get_or types n type ≡ type
-    found_get [] n type found = cc
-    found_get (first ∷ types) zero type found = cc
-    found_get (first ∷ types) (suc n) type found = found_get types n type found
 
 leads_in-same : (points points' : ℕ → Bool) (all fields : List Field) (k : ℕ)
     → ((i : ℕ) (field : Field) → slice_get fields i ≡ Some field → inside_of points field.base ≡ inside_of points' field.base)

@@ -30,6 +30,7 @@ pub mod MadeNumbers
 pub mod Names
 pub mod Places
 pub mod Pushed
+pub mod Roots
 pub mod SameValues
 pub mod StatedFields
 pub mod KeptTypes

@@ -1,5 +1,5 @@
 -- Packed records of small values, worked out by hand.
-use Rattle.std.proofs.Common.{◌≡◌, pos, negsuc, refl, List, [], ◌∷◌, ◌++◌, replicate}
+use Rattle.std.proofs.Common.{◌≡◌, pos, negsuc, refl, [], ◌∷◌, ◌++◌, replicate}
 use Rattle.evp_base.specs.declared.order.Order.TheVariants.{Little, Big}
 use Rattle.evp_format.specs.Datum.{num, null, text}
 use Rattle.evp_format.specs.Layout.{Layout, layout_with}

@@ -1,7 +1,9 @@
 -- The fields of a type that have a pointer or lead to one, in listed order: all that can fail in a
 -- record's bytes beside its length.
-use Rattle.std.specs.Prelude.{◌≡◌, ℕ, suc, Bool, true, false, ◌||◌, List, [], ◌∷◌, map, get_or}
+use Rattle.std.specs.Prelude.{◌≡◌, ◌-◌, ◌&&◌, ◌||◌, ℕ, suc, nat_eq, Bool, true, false}
+use Rattle.std.specs.Prelude.{List, [], ◌∷◌, length, map, get_or}
 use Rattle.std.specs.Prelude.{slice_get, if◌then◌else◌, Option, Some, None}
+use Rattle.std.specs.List.{list_all}
 use Rattle.evp_base.specs.declared.kind.Kind.{Kind}
 use Rattle.evp_base.specs.declared.kind.Kind.TheVariants as kind
 use Rattle.evp_format.specs.declared.field.Base.{Base}
@@ -120,6 +122,28 @@ all_leads types = map (λ (type : RecordType). type_leads types type.fields) typ
 -- the leads of the type of this number
 abbrev pub leads_of : Layout → ℕ → List Lead
 leads_of layout type_number = type_leads layout.types (type_fields layout type_number)
+
+-- the leads of the record
+abbrev pub leads_of_root : Layout → List Lead
+leads_of_root layout = leads_of layout (length layout.types - 1)
+
+-- whether a glance tells of elements with that inside: of a single string, and of an array of
+-- elements without a pointer that is counted in 4 bytes
+abbrev pub is_glanced_run : Run → Inside → Bool
+is_glanced_run run.One inside.Plain = false
+is_glanced_run run.One inside.Text = true
+is_glanced_run run.One (inside.Record type_number) = false
+is_glanced_run (run.Fixed n) within = false
+is_glanced_run (run.Counted count) inside.Plain = nat_eq count.size 4
+is_glanced_run (run.Counted count) inside.Text = false
+is_glanced_run (run.Counted count) (inside.Record type_number) = false
+
+abbrev pub is_glanced_lead : Lead → Bool
+is_glanced_lead lead = is_glanced_run lead.run lead.inside
+
+-- whether pointers have 8 bytes and a glance tells of each lead of the record
+abbrev pub is_glanced : Layout → Bool
+is_glanced layout = nat_eq layout.pointer 8 && list_all is_glanced_lead (leads_of_root layout)
 
 -- whether a type has a lead, by the leads of each type
 abbrev pub is_led : List Lead → Bool

@@ -2,9 +2,10 @@
 ghost use Rattle.std.specs.Prelude.{◌≡◌, ◌-◌, ◌<◌, IfOk, IsSome, Some, length, slice_get};
 ghost use Rattle.evp_format.specs.Class.{field_at};
 ghost use Rattle.evp_format.specs.Equality.{order_eq};
-ghost use Rattle.evp_format.specs.Leads.{leads_of};
+ghost use Rattle.evp_format.specs.Leads.{leads_of, leads_of_root, is_glanced};
+ghost use Rattle.evp_format.specs.Tree.{root_of, length_of};
 
-use crate::leads::{Leads, leads_of_types};
+use crate::leads::{Leads, are_glanced, leads_of_types};
 use crate::{Field, Lead, RecordType};
 use evp_base::{Memory, Order};
 use std::alloc::Global;
@@ -20,6 +21,10 @@ pub struct Format {
     types: Vec<RecordType>,
     // Of each type its fields that have or lead to a pointer.
     leads: Vec<Leads>,
+    // Of the record its length, its leads, and whether a glance tells of each of them.
+    root_length: u32,
+    root_leads: Vec<Lead>,
+    glanced: bool,
 }
 
 impl Model for Format {
@@ -30,11 +35,15 @@ impl Model for Format {
     ghost view = { λ f. record { order = f.order; pointer = f.pointer; types = f.types.items } };
 
     ghost use Rattle.std.specs.Prelude.{◌≡◌};
-    ghost use Rattle.evp_format.specs.Leads.{all_leads};
+    ghost use Rattle.evp_format.specs.Leads.{all_leads, leads_of_root, is_glanced};
+    ghost use Rattle.evp_format.specs.Tree.{root_of, length_of};
     ghost use Rattle.evp_format.specs.WellLaid.{IsWellLaid};
 
     ghost invariant = { λ f. IsWellLaid (layout_with f.order f.pointer f.types.items)
-        × (f.leads.items ≡ all_leads f.types.items) };
+        × (f.leads.items ≡ all_leads f.types.items)
+        × (f.root_length ≡ length_of (root_of (layout_with f.order f.pointer f.types.items)))
+        × (f.root_leads.items ≡ leads_of_root (layout_with f.order f.pointer f.types.items))
+        × (f.glanced ≡ is_glanced (layout_with f.order f.pointer f.types.items)) };
 }
 
 impl Format {
@@ -53,11 +62,17 @@ impl Format {
         ensures { IfOk result (λ made. made ≡ layout_with order pointer types.items) }
     {
         let leads = leads_of_types(alloc, types.as_slice())?;
+        let root_leads = Vec::from_slice(alloc, leads[leads.len() - 1].as_slice())?;
+        let glanced = are_glanced(pointer, root_leads.as_slice());
+        let root_length = types[types.len() - 1].length;
         Ok(Format {
             order,
             pointer,
             types,
             leads,
+            root_length,
+            root_leads,
+            glanced,
         })
     }
 
@@ -116,6 +131,29 @@ impl Format {
         ensures { result.now ≡ leads_of self.now type_number }
     {
         self.leads[usize::from(type_number)].as_slice()
+    }
+
+    /// The record's length: that of the last type.
+    pub fn length(&self) -> u32
+        ensures value { result ≡ length_of (root_of self.now) }
+        ensures laid { IsWellLaid self.now }
+    {
+        self.root_length
+    }
+
+    /// The leads of the record: those of the last type.
+    pub fn root_leads(&self) -> &[Lead]
+        ensures { result.now ≡ leads_of_root self.now }
+    {
+        self.root_leads.as_slice()
+    }
+
+    /// Whether a glance tells of each lead of the record: pointers have 8 bytes, and each is a
+    /// single string, or an array of elements without a pointer that is counted in 4 bytes.
+    pub fn is_glanced(&self) -> bool
+        ensures { result ≡ is_glanced self.now }
+    {
+        self.glanced
     }
 
     /// An equal format.

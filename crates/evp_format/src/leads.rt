@@ -1,7 +1,8 @@
 //! The fields of a type that have or lead to a pointer, found once for each format.
-ghost use Rattle.std.specs.Prelude.{◌≡◌, ◌<◌, ◌^◌, IfOk, length};
+ghost use Rattle.std.specs.Prelude.{◌≡◌, ◌<◌, ◌^◌, ◌&&◌, nat_eq, IfOk, length};
+ghost use Rattle.std.specs.List.{list_all};
 ghost use Rattle.evp_format.specs.Leads.{AreLaidTypes, HaveCounts, lead_in, leads_in, all_leads};
-ghost use Rattle.evp_format.specs.Leads.{run_in, inside_of, count_in, has_lead};
+ghost use Rattle.evp_format.specs.Leads.{run_in, inside_of, count_in, has_lead, is_glanced_lead};
 ghost use Rattle.evp_format.specs.WellLaid.{HasShape, IsCountField};
 
 use crate::{Base, Count, Field, Inside, Lead, RecordType, Run, Shape};
@@ -60,6 +61,31 @@ pub(crate) fn leads_of_types(alloc: Global, types: &[RecordType]) -> Result<Vec<
         leads.push(own)?;
     }
     Ok(leads)
+}
+
+/// Whether pointers have 8 bytes and a glance tells of each of these leads.
+pub(crate) fn are_glanced(pointer: u8, leads: &[Lead]) -> bool
+    ensures { result ≡ nat_eq pointer 8 && list_all is_glanced_lead leads.now }
+{
+    pointer == 8 && are_glanced_leads(leads)
+}
+
+// Whether a glance tells of each of these leads.
+fn are_glanced_leads(leads: &[Lead]) -> bool
+    ensures { result ≡ list_all is_glanced_lead leads.now }
+{
+    leads.iter().all(|lead| is_glanced_lead(lead))
+}
+
+// Whether a glance tells of the lead.
+fn is_glanced_lead(lead: &Lead) -> bool
+    ensures { result ≡ is_glanced_lead lead.now }
+{
+    match (lead.run, lead.inside) {
+        (Run::One, Inside::Text) => true,
+        (Run::Counted(count), Inside::Plain) => count.size == 4,
+        _ => false,
+    }
 }
 
 // The lead of a field, where it is one.

@@ -1,7 +1,7 @@
 -- The marks behind leads that are seen at a glance: behind a string, and behind a counted array of plain elements.
 use Rattle.std.proofs.Common.{◌≡◌, ◌≢◌, ℕ, zero, suc, ◌+◌, ◌-◌, ◌*◌, ◌^◌, ◌<◌, ◌≤◌, pos, ℤ, ◌-ℤ◌, Bool, true, false, ◌||◌, nat_lt, nat_eq, List, [], ◌∷◌}
 use Rattle.std.proofs.Common.{length, drop, Option, Some, None, refl, sym, ap, ◌∙◌, arith}
-use Rattle.std.specs.Prelude.{not, option_map, if◌then◌else◌, slice_index, slice_get, All, IsSome, IsOk}
+use Rattle.std.specs.Prelude.{not, option_map, if◌then◌else◌, slice_index, All, IsSome, IsOk}
 use Rattle.std.proofs.lemmas.Bool.Decides.{nat_tests}
 use Rattle.std.proofs.lemmas.List.{length-drop, length-take-le, get_or-drop}
 use Rattle.memchr.specs.Find.{is_byte}
@@ -17,10 +17,9 @@ use Rattle.evp_format.specs.declared.lead.Run.{Run}
 use Rattle.evp_format.specs.declared.lead.Run.TheVariants as run
 use Rattle.evp_format.specs.Bytes.{bytes_at}
 use Rattle.evp_format.specs.declared.broken.Broken.TheVariants.{BlockPlace}
-use Rattle.evp_format.specs.declared.record_type.RecordType.{RecordType}
 use Rattle.evp_format.specs.Layout.{Layout}
-use Rattle.evp_format.specs.Leads.{leads_of}
-use Rattle.evp_format.specs.Tree.{tree_of, root_of, length_of}
+use Rattle.evp_format.specs.Leads.{leads_of_root}
+use Rattle.evp_format.specs.Tree.{root_of, length_of}
 use Rattle.evp_format.specs.WellLaid.{IsWellLaid}
 use Rattle.evp_format.specs.Viewing.{view, view_tree, image_of}
 use Rattle.evp_format.specs.Viewing.{view_string, ended_text, until_zero, pointer_at, unless}
@@ -29,9 +28,10 @@ use Rattle.evp_record.specs.LeadMarks.{mark_of, image_in, text_walk, counted_mar
 use Rattle.evp_record.specs.LeadMarks.{lead_mark, leads_mark, IsLeadAt}
 use Rattle.evp_record.specs.Record.{Record, record_of}
 use Rattle.evp_format.proofs.LaidBases.{root_length}
+use Rattle.evp_format.proofs.Trees.{found_below}
 use Rattle.evp_record.proofs.LeadFacts.{counted_lead, lead_at}
 use Rattle.evp_record.proofs.LeadWalks.{plain_elements, leads_read}
-use Rattle.evp_record.proofs.Viewed.{view-walked, root_mark, viewed-marked}
+use Rattle.evp_record.proofs.Viewed.{view-walked, viewed-marked}
 use Rattle.evp_record.proofs.Zeros.{first_zero}
 
 -- a pointer of 8 bytes that was read
@@ -169,42 +169,40 @@ array_seen held lead count n q mark is counted plain four read small wide pointe
 
 -- ---- a record whose leads stand at its start
 
-record_there : (layout : Layout) (types : List RecordType) → IsWellLaid layout → types ≡ layout.types → length types - 1 < length layout.types
-record_there layout types laid same =
-    let long = ap (λ (all : List RecordType). length all) same in
-    let some = laid.types_allowed.0 in
-    omega (arith, long, some)
+root_below : (layout : Layout) → IsWellLaid layout → length layout.types - 1 < length layout.types
+root_below layout laid = let some = laid.types_allowed.0 in omega (arith, some)
 
-pub leads_there : (layout : Layout) (bytes : List ℕ) (types : List RecordType) (type : RecordType) (items : List Lead) → IsWellLaid layout
-    → length bytes < 2 ^ 32 → types ≡ layout.types → slice_get layout.types (length layout.types - 1) ≡ Some type
-    → items ≡ leads_of layout (length types - 1) → type.length ≤ length bytes
+pub root_some : (layout : Layout) (fixed : ℕ) → IsWellLaid layout → fixed ≡ length_of (root_of layout) → 0 < fixed
+root_some layout fixed laid is =
+    let last = found_below layout.types (length layout.types - 1) (root_below layout laid) in
+    let long = root_length layout last.0 laid last.1 in
+    let some = (laid.each_type (length layout.types - 1) last.0 last.1).length_allowed.0 in
+    omega (arith, is, long, some)
+
+pub leads_there : (layout : Layout) (bytes : List ℕ) (fixed : ℕ) (items : List Lead) → IsWellLaid layout → length bytes < 2 ^ 32
+    → fixed ≡ length_of (root_of layout) → items ≡ leads_of_root layout → fixed ≤ length bytes
     → All (IsLeadAt (record_of layout bytes) 0) items
-leads_there layout bytes types type items laid short same found are whole =
+leads_there layout bytes fixed items laid short is are whole =
     let held = record_of layout bytes in
-    let long = root_length layout type laid found in
-    let last = ap (λ (all : List RecordType). length_of (tree_of layout (length all - 1))) same in
-    λ k d below. (lead_at held held (length types - 1) 0 k items d refl laid short (record_there layout types laid same) are
-    (omega (arith, long, last, whole)) below).1
+    λ k d below. (lead_at held held (length layout.types - 1) 0 k items d refl laid short (root_below layout laid) are
+    (omega (arith, is, whole)) below).1
 
 -- it has a value where the walk by its leads has a mark
-pub led_viewed : (layout : Layout) (bytes : List ℕ) (types : List RecordType) (type : RecordType) (items : List Lead) → IsWellLaid layout
-    → types ≡ layout.types → slice_get layout.types (length layout.types - 1) ≡ Some type
-    → items ≡ leads_of layout (length types - 1) → type.length ≤ length bytes
-    → IsSome (leads_mark (record_of layout bytes) items 0 type.length)
+pub led_viewed : (layout : Layout) (bytes : List ℕ) (fixed : ℕ) (items : List Lead) → IsWellLaid layout
+    → fixed ≡ length_of (root_of layout) → items ≡ leads_of_root layout → fixed ≤ length bytes
+    → IsSome (leads_mark (record_of layout bytes) items 0 fixed)
     → IsOk (view layout bytes)
-led_viewed layout bytes types type items laid same found are whole some =
+led_viewed layout bytes fixed items laid is are whole some =
     let held = record_of layout bytes in
-    let long = root_length layout type laid found in
-    let walked = leads_read held held (length types - 1) 0 type.length items refl laid (record_there layout types laid same) are in
-    let mark = root_mark layout bytes held types type laid refl same found in
-    rw (view-walked layout bytes (omega (arith, long, whole)))
+    let walked = leads_read held held (length layout.types - 1) 0 fixed items refl laid (root_below layout laid) are in
+    let mark = ap (λ (n : ℕ). mark_of (view_tree (image_of layout bytes) (root_of layout) 0 [] n)) is in
+    rw (view-walked layout bytes (omega (arith, is, whole)))
     (viewed-marked (view_tree (image_of layout bytes) (root_of layout) 0 [] (length_of (root_of layout)))
-    (leads_mark held items 0 type.length) (walked ∙ mark) some)
+    (leads_mark held items 0 fixed) (walked ∙ mark) some)
 
 -- so where it has no lead
-pub unled_viewed : (layout : Layout) (bytes : List ℕ) (types : List RecordType) (type : RecordType) (items : List Lead) → IsWellLaid layout
-    → types ≡ layout.types → slice_get layout.types (length layout.types - 1) ≡ Some type
-    → items ≡ leads_of layout (length types - 1) → type.length ≤ length bytes → 0 ≡ length items
+pub unled_viewed : (layout : Layout) (bytes : List ℕ) (fixed : ℕ) (items : List Lead) → IsWellLaid layout
+    → fixed ≡ length_of (root_of layout) → items ≡ leads_of_root layout → fixed ≤ length bytes → 0 ≡ length items
     → IsOk (view layout bytes)
-unled_viewed layout bytes types type [] laid same found are whole none = led_viewed layout bytes types type [] laid same found are whole refl
-unled_viewed layout bytes types type (lead ∷ items) laid same found are whole none = absurd (omega (arith, none))
+unled_viewed layout bytes fixed [] laid is are whole none = led_viewed layout bytes fixed [] laid is are whole refl
+unled_viewed layout bytes fixed (lead ∷ items) laid is are whole none = absurd (omega (arith, none))

@@ -2,15 +2,17 @@
 
 ghost use Rattle.std.specs.Prelude.{◌≡◌, ◌+◌, ◌^◌, ◌≤◌, ◌<◌, length, All, IsTrue, Some, IsSome};
 ghost use Rattle.std.specs.Prelude.{IfSome};
+ghost use Rattle.std.specs.List.{AllPass};
 ghost use Rattle.evp_base.specs.Numbers.{is_width, magnitude};
 ghost use Rattle.evp_format.specs.Bytes.{bytes_at};
+ghost use Rattle.evp_format.specs.Leads.{leads_of_root, is_glanced_lead};
 ghost use Rattle.evp_format.specs.declared.lead.Inside.{Inside};
 ghost use Rattle.evp_format.specs.declared.lead.Run.{Run};
 ghost use Rattle.evp_record.specs.LeadMarks.{lead_mark, leads_mark, mark_of, text_walk, IsLeadAt};
 ghost use Rattle.evp_record.specs.Record.{record_of};
 
 use evp_base::Order;
-use evp_format::{Count, Format, Inside, Lead, Run};
+use evp_format::{Count, Format, Lead, Run};
 use evp_wide::{get_word, near_zero};
 use std::marker::Model;
 
@@ -75,20 +77,19 @@ impl<'a> Glance<'a> {
         Some(from + count + 1)
     }
 
-    // The mark behind a counted array of plain elements, where that is easily seen.
+    // The mark behind an array of plain elements that is counted in 4 bytes, where that is easily
+    // seen.
     #[inline(always)]
     fn array(&self, lead: &Lead, count: Count, mark: usize) -> Option<usize>
         requires wide { self.now.layout.pointer ≡ 8 }
         requires lead { IsLeadAt self.now 0 lead.now }
         requires counted { lead.now.run ≡ Run.Counted count }
         requires plain { lead.now.inside ≡ Inside.Plain }
+        requires four { count.size ≡ 4 }
         requires some { 0 < mark }
         ensures value { IfSome result (λ end. lead_mark self.now lead.now 0 mark ≡ Some end) }
         ensures some { IfSome result (λ end. 0 < end) }
     {
-        if count.size != 4 {
-            return None;
-        }
         let number = self.word(count.offset as usize, 4);
         if number == 0 {
             return Some(mark);
@@ -112,14 +113,15 @@ impl<'a> Glance<'a> {
     fn lead(&self, lead: &Lead, mark: usize) -> Option<usize>
         requires wide { self.now.layout.pointer ≡ 8 }
         requires lead { IsLeadAt self.now 0 lead.now }
+        requires glanced { IsTrue (is_glanced_lead lead.now) }
         requires some { 0 < mark }
         ensures value { IfSome result (λ end. lead_mark self.now lead.now 0 mark ≡ Some end) }
         ensures some { IfSome result (λ end. 0 < end) }
     {
-        match (lead.run, lead.inside) {
-            (Run::One, Inside::Text) => self.text(lead.offset as usize, mark),
-            (Run::Counted(count), Inside::Plain) => self.array(lead, count, mark),
-            _ => None,
+        match lead.run {
+            Run::One => self.text(lead.offset as usize, mark),
+            Run::Counted(count) => self.array(lead, count, mark),
+            Run::Fixed(_) => None,
         }
     }
 
@@ -128,6 +130,7 @@ impl<'a> Glance<'a> {
     fn leads(&self, leads: &[Lead], mark: usize) -> Option<usize>
         requires wide { self.now.layout.pointer ≡ 8 }
         requires leads { All (IsLeadAt self.now 0) leads.now }
+        requires glanced { AllPass is_glanced_lead leads.now }
         requires some { 0 < mark }
         ensures { IfSome result (λ end. leads_mark self.now leads.now 0 mark ≡ Some end) }
     {
@@ -143,13 +146,14 @@ impl<'a> Glance<'a> {
 // at the mark.
 #[inline(always)]
 pub(crate) fn is_easy(format: &Format, leads: &[Lead], bytes: &[u8], mark: usize) -> bool
+    requires root { leads.now ≡ leads_of_root format.now }
     requires leads { All (IsLeadAt (record_of format.now bytes.now) 0) leads.now }
     requires short { length bytes.now < 2 ^ 32 }
     requires some { 0 < mark }
     ensures { IsTrue result
         → IsSome (leads_mark (record_of format.now bytes.now) leads.now 0 mark) }
 {
-    if format.pointer() != 8 || bytes.len() < 16 {
+    if !format.is_glanced() || bytes.len() < 16 {
         return false;
     }
     let end = match format.order() {

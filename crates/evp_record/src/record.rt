@@ -42,11 +42,11 @@ pub fn check<'a>(format: &'a Format, bytes: &'a [u8]) -> Result<Checked<'a>, Bro
     ensures viewed { IfOk result (λ _. IsOk (view format.now bytes.now)) }
     ensures fault { IfErr result (λ fault. view format.now bytes.now ≡ Err fault) }
 {
-    let length = format.root().length as usize;
+    let length = format.length() as usize;
     if bytes.len() < length {
         return Err(Broken::ShortRecord);
     }
-    let leads = format.leads((format.types().len() - 1) as u16);
+    let leads = format.root_leads();
     if leads.is_empty() {
         return Ok(Checked { format, bytes });
     }

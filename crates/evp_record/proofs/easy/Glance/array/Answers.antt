@@ -7,7 +7,7 @@ use Rattle.evp_record.proofs.easy.Glance.array.Goals as goal
 pub returns-then-number-eq0-clause-value : goal.returns-then-number-eq0-clause-value
 returns-then-number-eq0-clause-value c =
     empty_seen c.args.self.now c.args.lead.now c.args.count c.word-number.result c.args.mark c.requires.lead c.requires.counted c.requires.plain
-    c.if-count-ne4.false c.word-number.ensures c.if-number-eq0.true
+    c.requires.four c.word-number.ensures c.if-number-eq0.true
 
 pub word-from-requires-clause-inside : goal.word-from-requires-clause-inside
 word-from-requires-clause-inside c =
@@ -20,5 +20,5 @@ returns-clause-value c =
     let room = ap (λ (held : Record). length held.bytes) c.self.view_is in
     array_seen c.args.self.now c.args.lead.now c.args.count c.word-number.result c.word-from.result c.args.mark c.requires.lead
     c.requires.counted c.requires.plain
-    c.if-count-ne4.false c.word-number.ensures (omega (arith, c.if-number-gt2147483647.false)) c.requires.wide c.word-from.ensures
+    c.requires.four c.word-number.ensures (omega (arith, c.if-number-gt2147483647.false)) c.requires.wide c.word-from.ensures
     c.requires.some c.if-from-mark.false (omega (arith, c.if-number-eq0.false)) (omega (arith, room, c.if-end-self.false))

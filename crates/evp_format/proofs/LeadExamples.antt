@@ -131,11 +131,12 @@ by_counts : map
     ≡ false ∷ false ∷ true ∷ false ∷ []
 by_counts = refl
 
--- pointers of 4 bytes and of 8, with and without leads, and a record that leads on behind one without leads
+-- pointers of 4 bytes and of 8, with and without leads, a record with records that lead on, and a type of these in front of the record
 by_pointers : is_glanced (with_pointers 4 (five_fields ∷ [])) ∷ is_glanced (with_pointers 8 (five_fields ∷ []))
     ∷ is_glanced (with_pointers 4 (plain ∷ [])) ∷ is_glanced (with_pointers 8 (plain ∷ []))
-    ∷ is_glanced (with_pointers 8 (five_fields ∷ plain ∷ outer ∷ [])) ∷ []
-    ≡ false ∷ true ∷ false ∷ true ∷ false ∷ []
+    ∷ is_glanced (with_pointers 8 (five_fields ∷ plain ∷ outer ∷ []))
+    ∷ is_glanced (with_pointers 8 (five_fields ∷ plain ∷ outer ∷ five_fields ∷ [])) ∷ []
+    ≡ false ∷ true ∷ false ∷ true ∷ false ∷ true ∷ []
 by_pointers = refl
 
 -- ---- faults

@@ -170,16 +170,16 @@ length-steps_over order from_order (step ∷ steps) cells =
 -- moves over zeros make a whole record
 pub whole_over : (from_order order : Order) (steps : List Step) (moves : Moving) (count : ℕ)
     → AreMovesOver from_order order steps (replicate count (Constant 0)) moves → end_of steps ≤ count
-    → IsWholeOf from_order order steps moves
+    → IsWholeOf from_order order steps moves × (length moves.cells ≡ count)
 whole_over from_order order steps moves count over fits =
     let long : length moves.cells ≡ count = ap length over.cells
     ∙ length-steps_over order from_order steps (replicate count (Constant 0)) ∙ length-replicate {A = Cell} count (Constant 0) in
     let Over : ℕ → Type 0 = λ n. AreMovesOver from_order order steps (replicate n (Constant 0)) moves in
-    record { fits = omega (arith, long, fits); over = subst Over (sym long) over }
+    (record { fits = omega (arith, long, fits); over = subst Over (sym long) over }, long)
 
 pub whole_all : {E : Type 0} (from_order order : Order) (steps : List Step) (count : ℕ) (made : Result (Option Moving) E)
     → IfOk made (λ some. IfSome some (AreMovesOver from_order order steps (replicate count (Constant 0)))) → end_of steps ≤ count
-    → IfOk made (λ some. IfSome some (IsWholeOf from_order order steps))
+    → IfOk made (λ some. IfSome some (λ moves. IsWholeOf from_order order steps moves × (length moves.cells ≡ count)))
 whole_all from_order order steps count (Ok None) over fits = tt
 whole_all from_order order steps count (Ok (Some moves)) over fits = whole_over from_order order steps moves count over fits
 whole_all from_order order steps count (Err fault) over fits = tt
@@ -209,6 +209,19 @@ pub whole_make : (programs : List Program) (image : Image) (machine : Machine) (
 whole_make programs image machine steps moves at after out is ready are long =
     cells_make programs image machine steps moves.cells at after out
     (record { plain = is.over.plain; fits = is.fits; over = is.over.cells }) ready are long
+
+-- and what they make has no more bytes
+pub whole_size : (programs : List Program) (image : Image) (machine : Machine) (steps : List Step) (moves : Moving) (at after : ℕ)
+    → IsWholeOf image.order machine.order steps moves → IsReady image (program_of programs steps) at → AreBytes image.bytes
+    → after ≡ (moved image machine (program_of programs steps) at 0 after).size
+whole_size programs image machine steps moves at after is ready are =
+    let zeros = replicate (length moves.cells) (Constant 0) in
+    let out = replicate {A = ℕ} (length moves.cells) 0 in
+    let zeros_long : length zeros ≡ length moves.cells = length-replicate {A = Cell} (length moves.cells) (Constant 0) in
+    let long : length out ≡ length moves.cells = length-replicate {A = ℕ} (length moves.cells) 0 in
+    let fits = is.fits in
+    sym (steps_painted programs image machine steps at 0 after zeros out is.over.plain ready are (omega (arith, fits, zeros_long))
+    (omega (arith, zeros_long, long))).1
 
 pub moves_long : (from_order order : Order) (steps : List Step) (moves : Moving) → IsMovesOf from_order order steps moves
     → length moves.cells ≡ end_of steps

@@ -192,7 +192,8 @@ fn moves_of(
     moves_over(alloc, order, from, steps, Cell::Keep, end as u32, 0)
 }
 
-// The moves that make all of a record of so many bytes by these steps, and zeros between.
+// The moves that make all of a record of so many bytes by these steps, and zeros between: so many
+// cells.
 pub(crate) fn whole_of(
     alloc: Global,
     order: Order,
@@ -200,7 +201,8 @@ pub(crate) fn whole_of(
     steps: &[Step],
     count: u32,
 ) -> Result<Option<Moves>, Memory>
-    ensures { IfOk result (λ made. IfSome made (IsWholeOf from order steps.now)) }
+    ensures { IfOk result (λ made. IfSome made (λ moves. IsWholeOf from order steps.now moves
+        × (length moves.cells ≡ count))) }
 {
     if end_of(steps) > u64::from(count) {
         return Ok(None);

@@ -68,7 +68,8 @@ impl Model for Plan {
 
     ghost invariant = { λ p. IsOrdered p.table.items × ((1 ≤ length p.table.items)
         × (AreMovesOf p.sender p.order p.table.items p.moves.items
-        × (IfSome p.whole (IsWholeOf p.sender p.order (last_steps p.table.items))
+        × (IfSome p.whole (λ moves. IsWholeOf p.sender p.order (last_steps p.table.items) moves
+        × (length moves.cells ≡ p.fixed))
         × ((p.tests.items ≡ tests_in p.table.items)
         × ((steps_in p.quick ≡ last_steps p.tests.items)
         × (IfSome p.laid (λ laid. IsLaidOf p.sender p.order (programs p.table.items)
@@ -219,11 +220,13 @@ impl Plan {
         }
     }
 
-    /// The moves that make all of the record, where gathers do.
+    /// The moves that make all of the record, where gathers do: a cell for each byte of its fixed
+    /// part.
     #[inline(always)]
     pub fn whole(&self) -> Option<&Moves>
         ensures moves { IfSome result (λ moves. IsWholeOf self.now.sender.order self.now.order
             (last_steps self.now.table) moves.now) }
+        ensures fixed { IfSome result (λ moves. length moves.now.cells ≡ self.now.fixed) }
         ensures ordered { IsOrdered self.now.table }
         ensures some { 1 ≤ length self.now.table }
     {

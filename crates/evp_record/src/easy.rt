@@ -13,7 +13,7 @@ ghost use Rattle.evp_record.specs.Record.{record_of};
 
 use evp_base::Order;
 use evp_format::{Count, Format, Lead, Run};
-use evp_wide::{get_word, near_zero};
+use evp_wide::{counts_some, get_word, near_zero};
 use std::marker::Model;
 
 // Fewer than 2^32 bytes, and the format of the record that they may be. Its order stands beside it,
@@ -91,11 +91,8 @@ impl<'a> Glance<'a> {
         ensures some { IfSome result (λ end. 0 < end) }
     {
         let number = self.word(count.offset as usize, 4);
-        if number == 0 {
-            return Some(mark);
-        }
-        if number > 0x7fff_ffff {
-            return None;
+        if !counts_some(number) {
+            return if number == 0 { Some(mark) } else { None };
         }
         let from = self.word(lead.offset as usize, 8);
         if from < mark || from > self.bytes.len() {

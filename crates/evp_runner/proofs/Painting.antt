@@ -12,13 +12,14 @@ use Rattle.evp_plan.specs.Planned.{Planned, StandsFor, machine_in, whole_program
 use Rattle.evp_plan.specs.Program.{Program, programs, program_of, program_at, last_steps, IsOrdered}
 use Rattle.evp_plan.specs.Ready.{IsReady}
 use Rattle.evp_plan.specs.Sound.{IsSound}
-use Rattle.evp_plan.proofs.Painted.{sound_end, moves_long, moves_make, whole_make, reach_inside}
+use Rattle.evp_plan.proofs.Painted.{sound_end, moves_long, moves_make, whole_make, whole_size, reach_inside}
 use Rattle.evp_plan.proofs.Programs.{program_at-steps}
 use Rattle.evp_record.specs.Record.{Record, IsRecord, value_of}
 use Rattle.evp_runner.specs.Pieces.{IsPut}
+use Rattle.evp_runner.specs.Running.{IsSizeOf}
 use Rattle.evp_runner.specs.StepIn.{CanMove}
 use Rattle.evp_runner.proofs.Measured.{at_index}
-use Rattle.evp_runner.proofs.Runs.{viewed_as}
+use Rattle.evp_runner.proofs.Runs.{viewed_as, moved_size}
 
 pub found_or : (table : List (List Step)) (n : ℕ) (steps : List Step) → slice_get table n ≡ Some steps → get_or table n [] ≡ steps
 found_or [] n steps found = cc
@@ -106,6 +107,17 @@ all_reach plan image moves p =
     let reach = reach_inside (programs plan.table) image (last_steps plan.table) 0 (omega arith) p.ready in
     let short = p.is.over.reach in
     omega (arith, reach, short)
+
+-- the moves make as many bytes as the plan finds
+pub all_long : (plan : Planned) (held : Record) (to : Layout) (image : Image) (moves : Moving) (n : ℕ) → StandsFor plan held.layout to
+    → IsRecord held → IsSizeOf plan held n → image ≡ image_of held.layout held.bytes → PaintsAll plan image moves → AreBytes image.bytes
+    → length moves.cells ≡ plan.fixed → length moves.cells ≡ n
+all_long plan held to image moves n stands is size image_is p are fixed =
+    fixed
+    ∙ whole_size (programs plan.table) image (machine_in plan) (last_steps plan.table) moves 0 plan.fixed p.is p.ready are
+    ∙ ap (λ (q : Program). (moved image (machine_in plan) q 0 0 plan.fixed).size) (sym p.program)
+    ∙ ap (λ (i : Image). (moved i (machine_in plan) (whole_program plan) 0 0 plan.fixed).size) image_is
+    ∙ moved_size plan held to n stands is size
 
 pub all_put : (plan : Planned) (image : Image) (moves : Moving) (out new : List ℕ) → PaintsAll plan image moves → AreBytes image.bytes
     → length moves.cells ≡ length out → new ≡ painted_at image.bytes 0 0 moves.cells out

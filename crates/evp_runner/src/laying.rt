@@ -17,10 +17,10 @@ ghost use Rattle.evp_runner.specs.StepIn.{image_in};
 use crate::moving::Move;
 use crate::sender::{Sender, are_bytes};
 use crate::sizing::aligned;
-use crate::words::{MOST_COUNT, eight_at, four_at};
+use crate::words::{eight_at, four_at};
 use evp_base::Order;
 use evp_plan::{Array, Block, Form, Laid, Plan, Text};
-use evp_wide::{put_signed, put_text, put_word};
+use evp_wide::{counts_some, put_signed, put_text, put_word};
 
 // The pointer of 8 bytes to the block at q, or 0.
 #[inline]
@@ -39,6 +39,22 @@ fn clear_gap(out: &mut [u8], size: usize)
     ensures { out.new ≡ put_at size (replicate 8 0) out.old }
 {
     put_word(&mut out[size..size + 8], Order::Little, 0);
+}
+
+// A null pointer, and nothing behind the first `size` bytes, where a sender's pointer or count is 0;
+// answers that size. None, and nothing is written, where it isn't.
+#[inline(always)]
+fn lay_none(out: &mut [u8], to: u32, order: Order, size: usize, word: usize) -> Option<usize>
+    requires { to + 8 ≤ length out.old }
+    ensures null { word ≡ 0 → (result ≡ Some size)
+        × (out.new ≡ put_at to (digits order 8 (pos 0)) out.old) }
+    ensures other { (word ≡ 0 → ⊥) → result ≡ None }
+{
+    if word != 0 {
+        return None;
+    }
+    point(out, to, order, 0);
+    Some(size)
 }
 
 // Zeros up to the next place of a block, and from there on n signed numbers of so many bytes, made
@@ -87,12 +103,10 @@ fn lay_text(
         out.old out.new result }
 {
     let from = eight_at(work.sender.bytes, text.from, order);
-    if from == 0 {
-        point(out, text.to, to_order, 0);
-        return Some(size);
-    }
     let q = aligned(size);
-    let count = put_text(out, size, q, work.sender.bytes, from)?;
+    let Some(count) = put_text(out, size, q, work.sender.bytes, from) else {
+        return lay_none(out, text.to, to_order, size, from);
+    };
     point(out, text.to, to_order, q);
     Some(q + count + 1)
 }
@@ -159,12 +173,8 @@ fn lay_array(
         out.old out.new result }
 {
     let n = four_at(work.sender.bytes, array.count, order);
-    if n == 0 {
-        point(out, array.to, to_order, 0);
-        return Some(size);
-    }
-    if n > MOST_COUNT {
-        return None;
+    if !counts_some(n) {
+        return lay_none(out, array.to, to_order, size, n);
     }
     match array.form {
         Form::TwoToEight => lay_numbers(work, array, order, out, to_order, size, n, 2, 8),
@@ -238,8 +248,8 @@ fn lay_blocks(work: &Move, laid: &Laid, order: Order, out: &mut [u8], to_order: 
 
 /// Makes all of the record, whatever stood there, where each of its blocks is easily laid; else
 /// `out` may be anything. The sender's record has these bytes, numbers of this order and pointers of
-/// 8 bytes. Apart from its callers, which would grow too large to stand in theirs.
-#[inline(never)]
+/// 8 bytes.
+#[inline(always)]
 pub(crate) fn lay<'a>(
     plan: &'a Plan,
     laid: &Laid,

@@ -219,22 +219,34 @@ pub(crate) fn run_over(plan: &Plan, item: Checked, out: &mut [u8], is_zero: bool
     let _held = item.bytes();
     let sender = sender_of(&item);
     if let Some(moves) = plan.whole() {
-        if moves.length() == out.len() {
-            moves.run(out, 0, sender.bytes, 0);
-            return;
-        }
+        moves.run(out, 0, sender.bytes, 0);
+        return;
     }
+    run_apart(plan, item.format(), item.bytes(), out, is_zero)
+}
+
+// The same where gathers don't make all of it. Apart from its callers, which would grow too large to
+// stand in theirs; it takes a record's parts, as `tested_whole` does.
+#[inline(never)]
+fn run_apart(plan: &Plan, format: &Format, bytes: &[u8], out: &mut [u8], is_zero: bool)
+    requires held { IsRecord (record_of format.now bytes.now) }
+    requires plan_from { IsPlanFrom plan.now format.now }
+    requires size { IsSizeOf plan.now (record_of format.now bytes.now) (length out.old) }
+    requires zero { IsTrue is_zero → out.old ≡ replicate (length out.old) 0 }
+    ensures { AreConverted plan.now (record_of format.now bytes.now) out.new }
+{
     if let Some(laid) = plan.laid() {
+        let sender = sender_by(format, bytes);
         if lay(plan, laid, sender.bytes, sender.order, out) {
             return;
         }
-        run_steps(plan, item.format(), item.bytes(), out, false);
+        run_steps(plan, format, bytes, out, false);
         return;
     }
-    run_steps(plan, item.format(), item.bytes(), out, is_zero)
+    run_steps(plan, format, bytes, out, is_zero)
 }
 
-// The same by the steps. Apart from it, so that the moves are all that its callers hold.
+// The same by the steps.
 #[inline(never)]
 fn run_steps(plan: &Plan, format: &Format, bytes: &[u8], out: &mut [u8], is_zero: bool)
     requires held { IsRecord (record_of format.now bytes.now) }

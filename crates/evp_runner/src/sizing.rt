@@ -8,10 +8,10 @@ ghost use Rattle.evp_plan.specs.Standing.{text_by};
 ghost use Rattle.evp_runner.specs.Sizing.{image_by_eight, IsBlockInside, text_end, numbers_end};
 ghost use Rattle.evp_runner.specs.Sizing.{count_of, EndsAt, AllEndAt};
 
-use crate::words::{MOST_COUNT, eight_at, four_at};
+use crate::words::{eight_at, four_at};
 use evp_base::Order;
 use evp_plan::{Array, Block, Form, Text};
-use evp_wide::near_zero;
+use evp_wide::{counts_some, near_zero};
 
 /// Where the next block begins.
 #[inline(always)]
@@ -45,10 +45,9 @@ fn size_of_text(bytes: &[u8], text: &Text, order: Order, size: usize) -> Option<
     ensures bound { IfSome result (λ end. end ≤ size + 2 ^ 35) }
 {
     let from = eight_at(bytes, text.from, order);
-    if from == 0 {
-        return Some(size);
-    }
-    let length = near_zero(bytes, from)?;
+    let Some(length) = near_zero(bytes, from) else {
+        return if from == 0 { Some(size) } else { None };
+    };
     Some(aligned(size) + length + 1)
 }
 
@@ -65,11 +64,8 @@ fn size_of_array(bytes: &[u8], array: &Array, order: Order, size: usize) -> Opti
     ensures bound { IfSome result (λ end. end ≤ size + 2 ^ 35) }
 {
     let n = four_at(bytes, array.count, order);
-    if n == 0 {
-        return Some(size);
-    }
-    if n > MOST_COUNT {
-        return None;
+    if !counts_some(n) {
+        return if n == 0 { Some(size) } else { None };
     }
     Some(aligned(size) + n * number_size(array.form))
 }

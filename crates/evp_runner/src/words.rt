@@ -17,9 +17,6 @@ pub(crate) fn eight_at(bytes: &[u8], s: u32, order: Order) -> usize
     get_word(&bytes[s..s + 8], order) as usize
 }
 
-/// The greatest count of 4 bytes that can't be one below 0.
-pub(crate) const MOST_COUNT: usize = 0x7fff_ffff;
-
 /// The count of 4 bytes that stands at s, as if it couldn't be below 0.
 #[inline]
 pub(crate) fn four_at(bytes: &[u8], s: u32, order: Order) -> usize

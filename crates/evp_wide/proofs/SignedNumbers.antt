@@ -3,7 +3,7 @@ use Rattle.std.proofs.Common.{◌≡◌, ℕ, zero, suc, ◌+◌, ◌*◌, ◌/�
 use Rattle.std.proofs.Common.{arith, append_assoc, drop-drop, length-append, length-take, length-drop, mul-div_cancel, suc-mul, add-mul}
 use Rattle.std.specs.List.{flat_map}
 use Rattle.std.proofs.lemmas.Bool.Decides.{nat_tests}
-use Rattle.std.proofs.lemmas.List.{append-nil, take_at, drop_at, take-take, drop-take}
+use Rattle.std.proofs.lemmas.List.{append-nil, take_at, drop_at, take-take, drop-take, take-append-drop}
 use Rattle.std.proofs.lemmas.List.Concat.{flat_map-append}
 use Rattle.evp_base.specs.Numbers.{number, digits, residue, is_width}
 use Rattle.evp_base.specs.declared.kind.Kind.TheVariants.{Int}
@@ -91,6 +91,13 @@ module _ (size : ℕ) (to_order : Order) (from : List ℕ) (width : ℕ) (from_o
     signed_is : (to at n : ℕ) (old : List ℕ) → at + n * width ≤ length from
         → with_signed to size to_order from at width from_order n old ≡ laid to (n * size) (numbers at n) old
     signed_is to at n old inside = ap (λ (l : List ℕ). laid to (n * size) l old) (all_of at n inside)
+
+    -- no number
+    pub signed_none : (to at : ℕ) (old : List ℕ) → at ≤ length from → old ≡ with_signed to size to_order from at width from_order 0 old
+    signed_none to at old inside =
+        let there : to + 0 * size ≡ to = omega arith in
+        let room : at + 0 * width ≤ length from = omega (arith, inside) in
+        sym (signed_is to at 0 old room ∙ ap (λ (t : ℕ). take to old ++ drop t old) there ∙ take-append-drop to old)
 
     -- further numbers behind those that were put
     pub signed_more : (to at a b : ℕ) (old : List ℕ) → at + (a + b) * width ≤ length from → to + (a + b) * size ≤ length old

@@ -1,5 +1,5 @@
 //! Numbers of elements, as words.
-ghost use Rattle.std.specs.Prelude.{◌≡◌, ◌<◌, ◌*◌, ◌^◌, length, IsTrue};
+ghost use Rattle.std.specs.Prelude.{◌≡◌, ◌<◌, ◌*◌, ◌^◌, ◌↔◌, length, IsTrue};
 ghost use Rattle.evp_base.specs.Numbers.{number, twos_complement, is_width};
 ghost use Rattle.evp_wide.specs.Counts.{natural};
 
@@ -19,6 +19,15 @@ fn from_zero(word: u64, size: usize) -> Option<u64>
     } else {
         None
     }
+}
+
+/// Whether an unsigned number of 4 bytes is a count of some elements: signed it is above 0, which one
+/// test tells. Takes no memory.
+#[inline(always)]
+pub fn counts_some(word: usize) -> bool
+    ensures { IsTrue result ↔ (0 < word) × (word < 2 ^ 31) }
+{
+    word.wrapping_sub(1) < 0x7fff_ffff
 }
 
 /// The number that some bytes are for a kind, where it isn't below 0. There are 1, 2, 4 or 8 bytes.

@@ -18,7 +18,7 @@ mod words;
 mod zeros;
 
 pub use clearing::clear;
-pub use counts::get_count;
+pub use counts::{counts_some, get_count};
 pub use fills::Differences;
 pub use fronts::put_front;
 pub use lanes::{Blend, Mask, gather, gather_blend, gather_or, gather_signs};

@@ -167,22 +167,22 @@ pub fn put_signed(
     requires out { to + n * size ≤ length out.old }
     ensures { out.new ≡ with_signed to size to_order from.now at width from_order n out.old }
 {
-    let fours = n / 4;
-    put_fours(out, to, size, to_order, from, at, width, from_order, fours);
+    let done = put_fours(out, to, size, to_order, from, at, width, from_order, n);
     put_few(
         out,
-        to + fours * 4 * size,
+        to + done * size,
         size,
         to_order,
         from,
-        at + fours * 4 * width,
+        at + done * width,
         width,
         from_order,
         n % 4,
     );
 }
 
-// The same of four times so many numbers.
+// The same of as many of them as are groups of four; answers how many those are. An odd group comes
+// first, so that none is a loop's.
 #[inline(always)]
 fn put_fours(
     out: &mut [u8],
@@ -193,27 +193,97 @@ fn put_fours(
     at: usize,
     width: usize,
     from_order: Order,
-    fours: usize,
+    n: usize,
+) -> usize
+    requires size { IsTrue (is_width size) }
+    requires width { IsTrue (is_width width) }
+    requires from { at + n * width ≤ length from.now }
+    requires out { to + n * size ≤ length out.old }
+    ensures done { result ≡ n / 4 * 4 }
+    ensures put { out.new
+        ≡ with_signed to size to_order from.now at width from_order (n / 4 * 4) out.old }
+{
+    let odd = n / 4 % 2 * 4;
+    if odd == 4 {
+        put_four(out, to, size, to_order, from, at, width, from_order);
+    }
+    put_eights(
+        out,
+        to + odd * size,
+        size,
+        to_order,
+        from,
+        at + odd * width,
+        width,
+        from_order,
+        n / 8,
+    );
+    n / 4 * 4
+}
+
+// The same of eight times so many numbers.
+#[inline(always)]
+fn put_eights(
+    out: &mut [u8],
+    to: usize,
+    size: usize,
+    to_order: Order,
+    from: &[u8],
+    at: usize,
+    width: usize,
+    from_order: Order,
+    eights: usize,
 )
     requires size { IsTrue (is_width size) }
     requires width { IsTrue (is_width width) }
-    requires from { at + fours * 4 * width ≤ length from.now }
-    requires out { to + fours * 4 * size ≤ length out.old }
+    requires from { at + eights * 8 * width ≤ length from.now }
+    requires out { to + eights * 8 * size ≤ length out.old }
     ensures { out.new
-        ≡ with_signed to size to_order from.now at width from_order (fours * 4) out.old }
+        ≡ with_signed to size to_order from.now at width from_order (eights * 8) out.old }
 {
-    for four in 0..fours {
-        put_four(
+    for eight in 0..eights {
+        put_eight(
             out,
-            to + four * 4 * size,
+            to + eight * 8 * size,
             size,
             to_order,
             from,
-            at + four * 4 * width,
+            at + eight * 8 * width,
             width,
             from_order,
         );
     }
+}
+
+// The same of eight numbers.
+#[inline(always)]
+fn put_eight(
+    out: &mut [u8],
+    to: usize,
+    size: usize,
+    to_order: Order,
+    from: &[u8],
+    at: usize,
+    width: usize,
+    from_order: Order,
+)
+    requires size { IsTrue (is_width size) }
+    requires width { IsTrue (is_width width) }
+    requires from { at + 8 * width ≤ length from.now }
+    requires out { to + 8 * size ≤ length out.old }
+    ensures { out.new ≡ with_signed to size to_order from.now at width from_order 8 out.old }
+{
+    put_four(out, to, size, to_order, from, at, width, from_order);
+    put_four(
+        out,
+        to + 4 * size,
+        size,
+        to_order,
+        from,
+        at + 4 * width,
+        width,
+        from_order,
+    );
 }
 
 // The same of four numbers, which are read before any is written. Its callers would grow too large

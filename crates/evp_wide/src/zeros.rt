@@ -68,7 +68,8 @@ fn zero_behind(bytes: &[u8]) -> Option<usize>
 }
 
 /// How many bytes stand from a place on before the first zero byte, where it is easily found: among
-/// the 32 bytes from there on. Where none is answered nothing is known. Takes no memory.
+/// the 32 bytes from there on. Where none is answered nothing is known; from 0, which is where a
+/// null pointer leads, none is. Takes no memory.
 #[inline(always)]
 pub fn near_zero(bytes: &[u8], from: usize) -> Option<usize>
     ensures { IfSome result (λ count. IsZeroBehind bytes.now from count) }
@@ -78,7 +79,8 @@ pub fn near_zero(bytes: &[u8], from: usize) -> Option<usize>
 }
 
 // How far behind a place the second of two windows of sixteen bytes begins, where the first begins
-// there: at most sixteen, and both lie inside. None where the first doesn't.
+// there: at most sixteen, and both lie inside. None where the first doesn't, or where the place is
+// 0: one test for both.
 #[inline(always)]
 fn second_behind(bytes: &[u8], from: usize) -> Option<usize>
     ensures near { IfSome result (λ behind. behind ≤ 16) }
@@ -88,7 +90,7 @@ fn second_behind(bytes: &[u8], from: usize) -> Option<usize>
         return None;
     }
     let last = bytes.len() - 16;
-    if from > last {
+    if from.wrapping_sub(1) >= last {
         return None;
     }
     Some((last - from).min(16))
@@ -122,8 +124,8 @@ fn zero_in_two(bytes: &[u8], from: usize, behind: usize) -> Option<usize>
 
 /// Writes the bytes from a place on up to the first zero byte, and that byte, from `to` on, and
 /// zeros from `size` up to there; what stands behind may be changed too. Answers how many stand
-/// before the zero byte; none where that isn't easily done, and then nothing is written. Takes no
-/// memory.
+/// before the zero byte; none where that isn't easily done, as from 0, and then nothing is written.
+/// Takes no memory.
 #[inline(always)]
 pub fn put_text(out: &mut [u8], size: usize, to: usize, bytes: &[u8], from: usize) -> Option<usize>
     requires inside { size ≤ length out.old }

@@ -2,7 +2,7 @@ ghost use Rattle.std.specs.Prelude.{◌≡◌, ◌+◌, ◌%◌, ◌≤◌, ◌*
 
 use evp_base::{Kind, Order};
 use evp_wide::{
-    Blend, Differences, Mask, clear, gather, gather_blend, gather_or, gather_signs, gather_two,
+    Blend, Differences, Mask, clear, counts_some, gather, gather_blend, gather_or, gather_signs, gather_two,
     gather_with_signs, get_count, get_word, put_front, put_word, rewrite, rewrite_number, swap2,
     swap4, swap8, widen_signed, widen_unsigned, zero_at,
 };
@@ -107,6 +107,11 @@ fn a_count_is_no_number_below_0(rt: HostRuntime) -> Result<(), Fail> {
         Some(32_769)
     );
     assert_eq!(rt; get_count(&[7], Order::Little, Kind::Boolean), Some(1));
+    // the words of 4 bytes that are counts of some elements
+    assert_eq!(rt; counts_some(0), false);
+    assert_eq!(rt; counts_some(1), true);
+    assert_eq!(rt; counts_some(0x7fff_ffff), true);
+    assert_eq!(rt; counts_some(0x8000_0000), false);
     Ok(())
 }
 

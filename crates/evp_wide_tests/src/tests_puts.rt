@@ -15,32 +15,36 @@ fn near(place: usize, from: usize) -> Option<usize>
 
 #[test]
 fn a_near_zero_byte_is_found(rt: HostRuntime) -> Result<(), Fail> {
-    assert_eq!(rt; near(0, 0), Some(0));
-    assert_eq!(rt; near(15, 0), Some(15));
-    assert_eq!(rt; near(16, 0), Some(16));
-    assert_eq!(rt; near(31, 0), Some(31));
-    assert_eq!(rt; near(32, 0), None);
+    assert_eq!(rt; near(1, 1), Some(0));
+    assert_eq!(rt; near(16, 1), Some(15));
+    assert_eq!(rt; near(17, 1), Some(16));
+    assert_eq!(rt; near(32, 1), Some(31));
+    assert_eq!(rt; near(33, 1), None);
     assert_eq!(rt; near(32, 33), None);
+    // none is looked for where a null pointer leads
+    assert_eq!(rt; near(0, 0), None);
+    assert_eq!(rt; near(15, 0), None);
     // close to the end the windows overlap, or are the same
     assert_eq!(rt; near(49, 18), Some(31));
     assert_eq!(rt; near(49, 30), Some(19));
     assert_eq!(rt; near(49, 34), Some(15));
     assert_eq!(rt; near(49, 35), None);
     assert_eq!(rt; near(49, 60), None);
-    assert_eq!(rt; near_zero(&[0; 15], 0), None);
-    assert_eq!(rt; near_zero(&[0; 16], 0), Some(0));
+    assert_eq!(rt; near_zero(&[0; 15], 1), None);
+    assert_eq!(rt; near_zero(&[0; 16], 1), None);
+    assert_eq!(rt; near_zero(&[0; 17], 1), Some(0));
     Ok(())
 }
 
 // Writes a text of so many letters, in fifty bytes, behind three bytes and a gap of two.
 fn write_text(out: &mut [u8], letters: usize) -> Option<usize>
-    requires letters { letters < 50 }
+    requires letters { letters < 49 }
     requires room { 3 ≤ length out.old }
     ensures { length out.new ≡ length out.old }
 {
     let mut bytes = [7; 50];
-    bytes[letters] = 0;
-    put_text(out, 3, 5, &bytes, 0)
+    bytes[1 + letters] = 0;
+    put_text(out, 3, 5, &bytes, 1)
 }
 
 #[test]
@@ -79,6 +83,7 @@ fn texts_want_room_for_both_windows(rt: HostRuntime) -> Result<(), Fail> {
     assert_eq!(rt; &last[..3], [4, 5, 6].as_slice());
     assert_eq!(rt; &last[13..], [17, 18, 0, 0x11].as_slice());
     assert_eq!(rt; put_text(&mut last, 0, 0, &bytes, 4), None);
+    assert_eq!(rt; put_text(&mut last, 0, 0, &bytes, 0), None);
     Ok(())
 }
 

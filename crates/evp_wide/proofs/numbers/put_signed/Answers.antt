@@ -14,8 +14,10 @@ returns c =
     let more = c.args.n % 4 in
     let all : done + more ≡ c.args.n = omega arith in
     c.put_few.ensures
+    ∙ ap (λ (d : ℕ). with_signed (to + d * size) size c.args.to_order from (at + d * width) width c.args.from_order more c.put_fours-done.new.out)
+    c.put_fours-done.ensures.done
     ∙ ap (λ (out : List ℕ). with_signed (to + done * size) size c.args.to_order from (at + done * width) width c.args.from_order more out)
-    c.put_fours.ensures
+    c.put_fours-done.ensures.put
     ∙ signed_more size c.args.to_order from width c.args.from_order c.requires.width to at done more c.args.out.now
     (subst (λ (n : ℕ). at + n * width ≤ length from) (sym all) c.requires.from)
     (subst (λ (n : ℕ). to + n * size ≤ length c.args.out.now) (sym all) c.requires.out)

@@ -1,4 +1,4 @@
-use Rattle.std.proofs.Common.{◌∙◌, ap, ℕ, List, IfSome, subst}
+use Rattle.std.proofs.Common.{◌≡◌, ◌∙◌, ap, ℕ, List, length, IfSome, subst}
 use Rattle.evp_base.specs.declared.order.Order.{Order}
 use Rattle.evp_format.specs.Tree.{root_of, length_of}
 use Rattle.evp_plan.specs.declared.step.Step.{Step}
@@ -45,7 +45,8 @@ invariant_of-result c =
     let last = c.last_list-last.ensures ∙ ap last_steps c.as_slice.ensures.value in
     let tests = c.in_ok-tests.ensures ∙ ap tests_in c.as_slice-3.ensures.value in
     let tested = c.last_list-2.ensures ∙ ap last_steps (c.as_slice-5.ensures.value ∙ tests) ∙ last_tests table in
-    let Whole : List Step → Type 0 = λ steps. IfSome c.in_ok-whole.whole (IsWholeOf sender c.order-order.result steps) in
+    let Whole : List Step → Type 0 = λ steps. IfSome c.in_ok-whole.whole (λ moves. IsWholeOf sender c.order-order.result steps moves
+    × (length moves.cells ≡ root.length)) in
     let Moving : List (List Step) → Type 0 = λ lists. AreMovesOf sender c.order-order.result lists c.in_ok-moves.moves.items in (
       c.requires.ordered,
       (

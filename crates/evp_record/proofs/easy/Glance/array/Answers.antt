@@ -18,7 +18,9 @@ word-from-requires-clause-inside c =
 pub returns-clause-value : goal.returns-clause-value
 returns-clause-value c =
     let room = ap (λ (held : Record). length held.bytes) c.self.view_is in
+    let some = c.if-not-counts_some.ensures.0 in
+    let few = c.if-not-counts_some.ensures.1 in
     array_seen c.args.self.now c.args.lead.now c.args.count c.word-number.result c.word-from.result c.args.mark c.requires.lead
     c.requires.counted c.requires.plain
-    c.requires.four c.word-number.ensures (omega (arith, c.if-number-gt2147483647.false)) c.requires.wide c.word-from.ensures
-    c.requires.some c.if-from-mark.false (omega (arith, c.if-number-eq0.false)) (omega (arith, room, c.if-end-self.false))
+    c.requires.four c.word-number.ensures (omega (arith, few)) c.requires.wide c.word-from.ensures
+    c.requires.some c.if-from-mark.false (omega (arith, some)) (omega (arith, room, c.if-end-self.false))

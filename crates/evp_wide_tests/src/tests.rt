@@ -2,9 +2,9 @@ ghost use Rattle.std.specs.Prelude.{◌≡◌, ◌+◌, ◌%◌, ◌≤◌, ◌*
 
 use evp_base::{Kind, Order};
 use evp_wide::{
-    Blend, Differences, Mask, clear, counts_some, gather, gather_blend, gather_or, gather_signs, gather_two,
-    gather_with_signs, get_count, get_word, put_front, put_word, rewrite, rewrite_number, swap2,
-    swap4, swap8, widen_signed, widen_unsigned, zero_at,
+    Blend, Differences, Mask, clear, counts_some, gather, gather_blend, gather_or, gather_signs,
+    gather_two, gather_with_signs, get_count, get_word, put_front, put_word, rewrite,
+    rewrite_number, swap2, swap4, swap8, widen_signed, widen_unsigned, zero_at,
 };
 use std::test::*;
 

@@ -16,14 +16,14 @@ returns-clause-put c =
     let first : c.if-odd-eq4.out ≡ with_signed to size c.args.to_order from at width c.args.from_order odd c.args.out.now =
     elim c.if-odd-eq4.branch [
       | then-odd-eq4 w ↦
-        w.out-is ∙ w.put_four.ensures
-        ∙ ap (λ (k : ℕ). with_signed to size c.args.to_order from at width c.args.from_order k c.args.out.now) (sym w.if-odd-eq4.true)
+          w.out-is ∙ w.put_four.ensures
+          ∙ ap (λ (k : ℕ). with_signed to size c.args.to_order from at width c.args.from_order k c.args.out.now) (sym w.if-odd-eq4.true)
       | else-odd-eq4 w ↦
-        let other = w.if-odd-eq4.false in
-        let none : odd ≡ 0 = omega (arith, other) in
-        w.out-is
-        ∙ signed_none size c.args.to_order from width c.args.from_order c.requires.width to at c.args.out.now (omega (arith, c.requires.from))
-        ∙ ap (λ (k : ℕ). with_signed to size c.args.to_order from at width c.args.from_order k c.args.out.now) (sym none)
+          let other = w.if-odd-eq4.false in
+          let none : odd ≡ 0 = omega (arith, other) in
+          w.out-is
+          ∙ signed_none size c.args.to_order from width c.args.from_order c.requires.width to at c.args.out.now (omega (arith, c.requires.from))
+          ∙ ap (λ (k : ℕ). with_signed to size c.args.to_order from at width c.args.from_order k c.args.out.now) (sym none)
     ] in
     let all : odd + n / 8 * 8 ≡ n / 4 * 4 = omega arith in
     let below : odd + n / 8 * 8 ≤ n = omega arith in

@@ -72,7 +72,8 @@ fn zero_behind(bytes: &[u8]) -> Option<usize>
 /// null pointer leads, none is. Takes no memory.
 #[inline(always)]
 pub fn near_zero(bytes: &[u8], from: usize) -> Option<usize>
-    ensures { IfSome result (λ count. IsZeroBehind bytes.now from count) }
+    ensures count { IfSome result (λ count. IsZeroBehind bytes.now from count) }
+    ensures some { IfSome result (λ _. 0 < from) }
 {
     let behind = second_behind(bytes, from)?;
     zero_in_two(bytes, from, behind)
@@ -85,6 +86,7 @@ pub fn near_zero(bytes: &[u8], from: usize) -> Option<usize>
 fn second_behind(bytes: &[u8], from: usize) -> Option<usize>
     ensures near { IfSome result (λ behind. behind ≤ 16) }
     ensures inside { IfSome result (λ behind. from + behind + 16 ≤ length bytes.now) }
+    ensures some { IfSome result (λ _. 0 < from) }
 {
     if bytes.len() < 16 {
         return None;
@@ -133,6 +135,7 @@ pub fn put_text(out: &mut [u8], size: usize, to: usize, bytes: &[u8], from: usiz
     requires near { to ≤ size + 8 }
     ensures length { length out.new ≡ length out.old }
     ensures count { IfSome result (λ count. IsZeroBehind bytes.now from count) }
+    ensures some { IfSome result (λ _. 0 < from) }
     ensures room { IfSome result (λ count. to + (count + 1) ≤ length out.old) }
     ensures front { IfSome result (λ count.
         IsFrontWith size to (count + 1) (drop from bytes.now) out.old out.new) }

@@ -13,4 +13,4 @@ pub returns-clause-value : goal.returns-clause-value
 returns-clause-value c =
     text_seen c.args.self.now c.args.at c.args.mark c.word-from.result c.in_ok-count.count c.requires.wide c.word-from.ensures c.requires.some
     c.if-from-mark.false
-    (subst (λ (held : Record). IsZeroBehind held.bytes c.word-from.result c.in_ok-count.count) c.self.view_is c.in_ok-count.ensures)
+    (subst (λ (held : Record). IsZeroBehind held.bytes c.word-from.result c.in_ok-count.count) c.self.view_is c.in_ok-count.ensures.count)

@@ -1,5 +1,5 @@
 -- A text or an array of numbers laid behind a front.
-use Rattle.std.proofs.Common.{◌≡◌, ◌≢◌, ℕ, ◌+◌, ◌-◌, ◌*◌, ◌/◌, ◌^◌, ◌<◌, ◌≤◌, pos, List, [], ◌∷◌, ◌++◌, length, take, drop}
+use Rattle.std.proofs.Common.{◌≡◌, ◌≢◌, ℕ, zero, suc, Option, Some, None, ◌+◌, ◌-◌, ◌*◌, ◌/◌, ◌^◌, ◌<◌, ◌≤◌, pos, List, [], ◌∷◌, ◌++◌, length, take, drop}
 use Rattle.std.proofs.Common.{true, refl, sym, ap, ◌∙◌, subst, arith}
 use Rattle.std.specs.Prelude.{replicate, ⊤}
 use Rattle.std.proofs.Math.Nat.{mul-div_cancel}
@@ -118,6 +118,13 @@ text_put plan image order to_order text' size from q count old out new orders ca
     laid_as plan image can.step size end old new (laid_block machine text'.to front (bytes ++ 0 ∷ [])) facts.front
     (omega (arith, room, new_long)) taken
     (text_laid (programs plan.table) image machine can.step text' bytes front orders.to_pointer can.is seen (omega (arith, to, front_long)))
+
+-- what is answered where a sender's word is 0, and where it isn't
+pub laid_none : (Laid : Option ℕ → Type 0) (Pointed : Type 0) (word size : ℕ) (result : Option ℕ)
+    → (word ≡ 0 → (result ≡ Some size) × Pointed) → ((word ≡ 0 → ⊥) → result ≡ None) → (word ≡ 0 → Pointed → Laid (Some size))
+    → Laid None → Laid result
+laid_none Laid Pointed zero size result empty other laid none = let made = empty refl in subst Laid (sym made.0) (laid refl made.1)
+laid_none Laid Pointed (suc n) size result empty other laid none = subst Laid (sym (other (λ is. omega (arith, is)))) none
 
 pub null_put : (plan : Planned) (image : Image) (order to_order : Order) (text' : TextBlock) (size from : ℕ) (old new : List ℕ)
     → AreOrders plan image order to_order → (can : CanLay plan image (block.Text text') size (length old))

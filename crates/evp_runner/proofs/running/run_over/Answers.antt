@@ -1,4 +1,4 @@
-use Rattle.std.proofs.Common.{◌≡◌, ℕ, ◌-◌, List, length, refl, sym, arith, subst}
+use Rattle.std.proofs.Common.{◌≡◌, ℕ, ◌-◌, List, length, refl, arith, subst}
 use Rattle.std.specs.Prelude.{replicate}
 use Rattle.evp_base.specs.declared.order.Order.{Order}
 use Rattle.evp_format.specs.Layout.{Layout}

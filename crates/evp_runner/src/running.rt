@@ -51,11 +51,41 @@ pub(crate) fn measure_quickly(plan: &Plan, item: &Checked, limit: u32) -> Option
     ensures size { IfSome result (λ size. IsSizeOf plan.now item.now size) }
 {
     let _held = item.bytes();
+    if let Some(size) = told_whole(plan, item, limit) {
+        return Some(size);
+    }
+    let size = untold_whole(plan, item, limit)?;
+    Some(size)
+}
+
+// The packed size, where the plan tests numbers alone, and windows tell that each of them fits. It is
+// asked first: where it answers, nothing else is to be asked.
+#[inline(always)]
+fn told_whole(plan: &Plan, item: &Checked, limit: u32) -> Option<u32>
+    requires { IsPlanFrom plan.now item.now.layout }
+    ensures { IfSome result (λ size. Ok size
+        ≡ outcome (measured_whole plan.now (image_of item.now.layout item.now.bytes) limit)) }
+{
+    if plan.fixed() > limit {
+        return None;
+    }
+    if is_told(plan, item) {
+        return Some(plan.fixed());
+    }
+    None
+}
+
+// The packed size, where another way shows easily that nothing is refused.
+#[inline(always)]
+fn untold_whole(plan: &Plan, item: &Checked, limit: u32) -> Option<u32>
+    requires { IsPlanFrom plan.now item.now.layout }
+    ensures { IfSome result (λ size. Ok size
+        ≡ outcome (measured_whole plan.now (image_of item.now.layout item.now.bytes) limit)) }
+{
     if let Some(size) = laid_whole(plan, item, limit) {
         return Some(size);
     }
-    let size = quick_whole(plan, item, limit)?;
-    Some(size)
+    quick_whole(plan, item, limit)
 }
 
 // The packed size, where the record is made without a look at its steps, and its texts' ends stand
@@ -75,7 +105,7 @@ fn laid_whole(plan: &Plan, item: &Checked, limit: u32) -> Option<u32>
 }
 
 // The packed size, where it is easily seen that nothing is refused: without a call where the plan
-// can refuse nothing, or windows tell of all numbers that it tests.
+// can refuse nothing.
 #[inline(always)]
 fn quick_whole(plan: &Plan, item: &Checked, limit: u32) -> Option<u32>
     requires { IsPlanFrom plan.now item.now.layout }
@@ -90,9 +120,6 @@ fn quick_whole(plan: &Plan, item: &Checked, limit: u32) -> Option<u32>
     if list.is_empty() {
         let bytes = item.bytes();
         are_bytes(bytes);
-        return Some(plan.fixed());
-    }
-    if is_told(plan, item) {
         return Some(plan.fixed());
     }
     tested_whole(plan, item.format(), item.bytes(), limit)

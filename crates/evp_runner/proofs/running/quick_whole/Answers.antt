@@ -23,9 +23,3 @@ returns-then-is_empty c =
     (none_left (length tests) c.if-is_empty.ensures)
     (can_whole plan held c.requires.to image (length plan.table - 1) 0 c.requires.stands c.bytes-bytes.ensures.kept refl refl refl)
     (subst Are c.bytes-bytes.ensures.value c.are_bytes.ensures) within)
-
-pub returns-then-is_told : goal.returns-then-is_told
-returns-then-is_told c =
-    let fixed = c.fixed.ensures in
-    let short = c.if-fixed-limit.false in
-    rw (c.fixed-then-is_told.ensures) (c.is_told.ensures c.if-is_told.true c.args.limit (omega (arith, fixed, short)))

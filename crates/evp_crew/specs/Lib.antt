@@ -1,4 +1,5 @@
 pub mod Alone
+pub mod Apart
 pub mod Carried
 pub mod Done
 pub mod Ends
@@ -11,5 +12,6 @@ pub mod Rule
 pub mod Seat
 pub mod Seated
 pub mod Visit
+pub mod Watched
 pub mod Ways
 pub mod Whole

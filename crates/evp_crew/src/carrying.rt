@@ -7,18 +7,19 @@ ghost use Rattle.evp_crew.specs.Gathering.{AllWork};
 ghost use Rattle.evp_crew.specs.Rota.{three, AreServing};
 
 use crate::alone::alone;
+use crate::apart::each_apart;
 use crate::carried::Carried;
 use crate::crew::Crew;
 use crate::gate::Gate;
 use crate::gathering::gathered;
 use crate::seating::{add, more_desks, rotas_of};
+use crate::watch::{NoWatch, Watch};
 use crate::worker::{Desk, Office, Worker};
 use evp_base::Memory;
 use evp_cache::PlanCache;
 use evp_stone::Job;
 use std::alloc::Global;
 use std::sync::Wait;
-use std::thread;
 use std::thread::Threads;
 
 /// Carries a job by so many workers, 1 to 64, each in a thread where one can be made. The gate is
@@ -33,23 +34,41 @@ pub fn carry<R: Threads + Wait + Sync, G: Gate + Sync>(
     requires { (1 ≤ workers) × (workers ≤ 64) }
     ensures { IfOk result (IsCarried job.now) }
 {
+    carry_watched(rt, alloc, job, workers, gate, &NoWatch)
+}
+
+/// The same. The watch looks at each actor behind the turns that a worker did with it.
+pub fn carry_watched<R: Threads + Wait + Sync, G: Gate + Sync, W: Watch + Sync>(
+    rt: &R,
+    alloc: Global,
+    job: &Job,
+    workers: u32,
+    gate: &G,
+    watch: &W,
+) -> Result<Carried, Memory>
+    requires workers { (1 ≤ workers) × (workers ≤ 64) }
+    requires watch { W.is_for watch.now job.now }
+    ensures { IfOk result (IsCarried job.now) }
+{
     let parts = job.parts();
     let cache = PlanCache::new(alloc, parts.formats.as_slice(), parts.declared)?;
-    match by_workers(rt, alloc, job, &cache, workers, gate)? {
+    match by_workers(rt, alloc, job, &cache, workers, gate, watch)? {
         Some(carried) => Ok(carried),
         None => alone(rt, alloc, job, &cache),
     }
 }
 
 // What so many workers carried, or none where they left a seat that isn't closed.
-fn by_workers<R: Threads + Wait + Sync, G: Gate + Sync>(
+fn by_workers<R: Threads + Wait + Sync, G: Gate + Sync, W: Watch + Sync>(
     rt: &R,
     alloc: Global,
     job: &Job,
     cache: &PlanCache,
     workers: u32,
     gate: &G,
+    watch: &W,
 ) -> Result<Option<Carried>, Memory>
+    requires watch { W.is_for watch.now job.now }
     requires cache { IsCacheOf cache.now job.now.formats }
     requires declared { cache.now.declared ≡ job.now.declared }
     requires some { 1 ≤ workers }
@@ -68,7 +87,7 @@ fn by_workers<R: Threads + Wait + Sync, G: Gate + Sync>(
         workers,
     };
     let mut all = hired(rt, alloc, &office, desks.as_mut_slice())?;
-    work_all(rt, &office, gate, all.as_mut_slice());
+    work_all(rt, &office, gate, watch, all.as_mut_slice());
     match gathered(alloc, count, all)? {
         Some(seats) => Ok(Some(Carried::new(alloc, job, cache, crew, seats)?)),
         None => Ok(None),
@@ -101,29 +120,30 @@ fn hired<R: Wait>(
 }
 
 // All workers work until they end, each in a thread where one can be made.
-fn work_all<R: Threads + Wait + Sync, G: Gate + Sync>(
+fn work_all<R: Threads + Wait + Sync, G: Gate + Sync, W: Watch + Sync>(
     rt: &R,
     office: &Office<'_>,
     gate: &G,
+    watch: &W,
     all: &mut [Worker],
 )
-    requires { AllWork office.now.rotas.now
+    requires watch { W.is_for watch.now office.now.job.now }
+    requires work { AllWork office.now.rotas.now
         (three office.now.job.now office.now.cache.now office.now.crew.now) all.old }
     ensures long { length all.new ≡ length all.old }
     ensures work { AllWork office.now.rotas.now
         (three office.now.job.now office.now.cache.now office.now.crew.now) all.new }
 {
-    let threads = all.len().max(1);
-    thread::for_each_mut(
+    each_apart(
         rt,
         all,
-        threads,
         &|_, worker: &mut Worker|
-            requires { WorksAt office.now.rotas.now
+            requires { W.is_for watch.now office.now.job.now
+                × WorksAt office.now.rotas.now
                 (three office.now.job.now office.now.cache.now office.now.crew.now) worker.now }
             ensures { WorksAt office.entry.now.rotas.now
                 (three office.entry.now.job.now office.entry.now.cache.now
                 office.entry.now.crew.now) worker.exit.now }
-        { worker.work(rt, office, gate) },
+        { worker.work(rt, office, gate, watch) },
     );
 }

@@ -2,6 +2,7 @@
 #![tactic(auto)]
 
 mod alone;
+mod apart;
 mod carried;
 mod carrying;
 mod course;
@@ -18,12 +19,14 @@ mod seat;
 mod seating;
 mod three;
 mod visiting;
+mod watch;
 mod ways;
 mod worker;
 
 pub use carried::Carried;
-pub use carrying::carry;
+pub use carrying::{carry, carry_watched};
 pub use crew::Crew;
 pub use gate::{Gate, OpenGate};
 pub use rota::{Rota, RotaPass};
 pub use seat::Seat;
+pub use watch::{NoWatch, Watch};

@@ -10,6 +10,7 @@ use crate::gate::Gate;
 use crate::passes::Passes;
 use crate::port::CrewPort;
 use crate::seat::{Equipped, Seat};
+use crate::watch::Watch;
 use crate::worker::Office;
 use evp_stone::{Actor, Turn};
 use std::mem;
@@ -18,17 +19,20 @@ use std::sync::Wait;
 // How many turns a worker does with a seat before it puts it back.
 const MOST_TURNS: u32 = 64;
 
-// Does turns with a seat while they move, with the gate before each. It is one more in a row that
-// moved nothing, or the row is at its end. The passes leave the seat for all these turns at once.
-pub(crate) fn visit<R: Wait, G: Gate>(
+// Does turns with a seat while they move, with the gate before each and a look at its actor behind
+// them. It is one more in a row that moved nothing, or the row is at its end. The passes leave the
+// seat for all these turns at once.
+pub(crate) fn visit<R: Wait, G: Gate, W: Watch>(
     rt: &R,
     office: &Office<'_>,
     gate: &G,
+    watch: &W,
     worker: u32,
     seat: &mut Seat,
     idle: &mut u32,
 ) -> Turn
-    requires { IsOfThree
+    requires watch { W.is_for watch.now office.now.job.now }
+    requires seat { IsOfThree
         (three office.now.job.now office.now.cache.now office.now.crew.now) seat.old }
     ensures of { IsOfThree
         (three office.now.job.now office.now.cache.now office.now.crew.now) seat.new }
@@ -39,6 +43,7 @@ pub(crate) fn visit<R: Wait, G: Gate>(
     let none = Passes::none(passes.alloc);
     let mut port = CrewPort::new(rt, office.crew, office.job, mem::replace(passes, none));
     let turn = turns(office, gate, worker, number, actor, &mut port, idle);
+    watch.look(office.job, actor);
     *passes = port.into_passes();
     turn
 }

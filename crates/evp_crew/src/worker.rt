@@ -10,6 +10,7 @@ use crate::gate::Gate;
 use crate::rota::{Rota, RotaPass};
 use crate::seat::Seat;
 use crate::visiting::visit;
+use crate::watch::Watch;
 use evp_cache::PlanCache;
 use evp_stone::{Job, Turn};
 use std::sync::Wait;
@@ -53,8 +54,15 @@ pub(crate) enum Next {
 
 impl Worker {
     /// Works until it finds no seat in any rota or a turn finds no memory.
-    pub(crate) fn work<R: Wait, G: Gate>(&mut self, rt: &R, office: &Office<'_>, gate: &G)
-        requires { WorksAt office.now.rotas.now
+    pub(crate) fn work<R: Wait, G: Gate, W: Watch>(
+        &mut self,
+        rt: &R,
+        office: &Office<'_>,
+        gate: &G,
+        watch: &W,
+    )
+        requires watch { W.is_for watch.now office.now.job.now }
+        requires works { WorksAt office.now.rotas.now
             (three office.now.job.now office.now.cache.now office.now.crew.now) self.old }
         ensures { WorksAt office.now.rotas.now
             (three office.now.job.now office.now.cache.now office.now.crew.now) self.new }
@@ -63,9 +71,9 @@ impl Worker {
         let mut course = Course::new(self.number, office.workers, office.rotas.len());
         for _ in rt.forever() {
             next = match next {
-                Next::Take => self.take(rt, office, &mut course),
+                Next::Take => self.take(rt, office, watch, &mut course),
                 Next::Hold(number, seat) => {
-                    self.serve(rt, office, gate, number, seat, &mut course)
+                    self.serve(rt, office, gate, watch, number, seat, &mut course)
                 }
                 Next::End => return,
             };
@@ -74,7 +82,13 @@ impl Worker {
     }
 
     // Takes the next seat out of its rota, or ends where each is empty.
-    fn take<R: Wait>(&mut self, rt: &R, office: &Office<'_>, course: &mut Course) -> Next
+    fn take<R: Wait, W: Watch>(
+        &mut self,
+        rt: &R,
+        office: &Office<'_>,
+        watch: &W,
+        course: &mut Course,
+    ) -> Next
         requires { WorksAt office.now.rotas.now
             (three office.now.job.now office.now.cache.now office.now.crew.now) self.old }
         ensures works { WorksAt office.now.rotas.now
@@ -82,6 +96,7 @@ impl Worker {
         ensures next { GoesOnWith office.now.rotas.now
             (three office.now.job.now office.now.cache.now office.now.crew.now) result }
     {
+        watch.rest(self.number);
         let Some(number) = course.next(office.rotas.len()) else {
             return Next::End;
         };
@@ -96,15 +111,17 @@ impl Worker {
     }
 
     // Does turns with a seat and puts it back, or keeps it where it is closed.
-    fn serve<R: Wait, G: Gate>(
+    fn serve<R: Wait, G: Gate, W: Watch>(
         &mut self,
         rt: &R,
         office: &Office<'_>,
         gate: &G,
+        watch: &W,
         number: usize,
         mut seat: Seat,
         course: &mut Course,
     ) -> Next
+        requires watch { W.is_for watch.now office.now.job.now }
         requires works { WorksAt office.now.rotas.now
             (three office.now.job.now office.now.cache.now office.now.crew.now) self.old }
         requires seat { IsOfThree
@@ -115,7 +132,15 @@ impl Worker {
         ensures next { GoesOnWith office.now.rotas.now
             (three office.now.job.now office.now.cache.now office.now.crew.now) result }
     {
-        let turn = visit(rt, office, gate, self.number, &mut seat, &mut course.idle);
+        let turn = visit(
+            rt,
+            office,
+            gate,
+            watch,
+            self.number,
+            &mut seat,
+            &mut course.idle,
+        );
         course.left(turn, office.rotas.len(), office.job.parts().sources.len());
         match turn {
             Turn::Closed => {

@@ -1,7 +1,7 @@
 -- What an account shows where it is that of a tally, and what it tells of a route in a round.
 use Rattle.std.proofs.Common.{◌≡◌, ℕ, zero, suc, List, [], ◌∷◌, ◌++◌, map, length, Option, Some, None, Result, IsOk}
 use Rattle.std.proofs.Common.{refl, sym, ap, ◌∙◌, subst, arith}
-use Rattle.std.proofs.Common.{Bor, ◌≤◌}
+use Rattle.std.proofs.Common.{Bor, ◌≤◌, take}
 use Rattle.std.proofs.lemmas.Option.{slice_get_past, slice_get_read}
 use Rattle.std.proofs.lemmas.Slice.Zip.{AllZip-left, AllZip-long}
 use Rattle.std.specs.Prelude.{All, slice_get, option_map, IsSomeAnd, IfSome, IfNone, MatchOption}
@@ -12,6 +12,7 @@ use Rattle.std.specs.List.{AllZip}
 use Rattle.evp_action.specs.declared.acted.Reason.{Reason}
 use Rattle.evp_format.specs.declared.broken.Broken.{Broken}
 use Rattle.evp_format.specs.Datum.{Datum, null}
+use Rattle.evp_format.proofs.Trees.{slice_get-take}
 use Rattle.evp_format.specs.Layout.{Layout}
 use Rattle.evp_graph.specs.declared.route.Route.{Route}
 use Rattle.evp_record.specs.Owned.{HasValueIn}
@@ -21,11 +22,12 @@ use Rattle.evp_stone.specs.declared.account.RoundAccount.{RoundAccount}
 use Rattle.evp_stone.specs.declared.account.RouteAccount.{RouteAccount}
 use Rattle.evp_stone.specs.Accounts.{accounts_of}
 use Rattle.evp_stone.specs.Carried.{Carried}
+use Rattle.evp_stone.specs.Ended.{AreEnded}
 use Rattle.evp_stone.specs.Entries.{IsThat}
 use Rattle.evp_stone.specs.JobShape.{JobShape}
 use Rattle.evp_stone.specs.Tallied.{IsReceived, IsRouteAccount, IsTallied}
 use Rattle.evp_stone.specs.Tally.{Tally}
-use Rattle.evp_report.specs.Report.{account_text, lines_in, route_name, told_in, told_of}
+use Rattle.evp_report.specs.Report.{account_text, lines_at, lines_in, lines_of, route_name, told_in, told_of}
 use Rattle.evp_report.specs.Shown.{Indexed, received, IsReadable, shown, IsRoundAccount, HasNoRound}
 
 carried : ℕ → ℕ → Datum → Carried
@@ -132,3 +134,29 @@ module _ (job : JobShape) (number round : ℕ) (account : RouteAccount) (is : Is
       let long = AllZip-long (IsTallied job.formats) rounds (accounts_of job is.route) told in
       let past : length rounds ≤ round = item.3 in
       record { route = is.route; there = is.there; none = slice_get_past (accounts_of job is.route) round (omega (arith, long, past)) }
+
+-- the account of a round that has ended
+pub ended_round : (job : JobShape) (number round : ℕ) (ended : List RoundAccount) (account : RoundAccount)
+    → AreEnded job number ended → slice_get ended round ≡ Some account
+    → IsRoundAccount job number round account
+ended_round job number round ended account are at =
+    let all = accounts_of job are.route in
+    let there = subst (λ (o : Option RoundAccount). MatchOption o (Unit {0})
+    (λ x. IsSomeAnd (slice_get (take (length ended) all) round) (IsTallied job.formats x))) at
+    (AllZip-left (IsTallied job.formats) ended (take (length ended) all) are.ended round) in
+    let held = holds_there (slice_get (take (length ended) all) round) (IsTallied job.formats account) there in
+    record {
+      route = are.route;
+      there = are.there;
+      tally = held.0;
+      told = slice_get-take all (length ended) round held.0 held.1.0;
+      same = held.1.1;
+    }
+
+-- the lines of a route in a round that has ended
+pub ended_lines : (job : JobShape) (number round : ℕ) (ended : List RoundAccount) (account : RoundAccount) (route : Route)
+    → AreEnded job number ended → slice_get job.routes number ≡ Some route → slice_get ended round ≡ Some account
+    → lines_of job number round ≡ route_name job route ++ account_text (shown job.formats account)
+ended_lines job number round ended account route are there at =
+    ap (lines_at job round) there
+    ∙ told_some job number round route account there (ended_round job number round ended account are at)

@@ -105,6 +105,14 @@ round_lines round routes = round_line round ++ flat_map (told_in round) routes
 abbrev pub routes_lines : JobShape → ℕ → List Route → List ℕ
 routes_lines job round routes = flat_map (λ route. told_in round (told_of job route)) routes
 
+abbrev pub lines_at : JobShape → ℕ → Option Route → List ℕ
+lines_at job round None = []
+lines_at job round (Some route) = told_in round (told_of job route)
+
+-- the lines of the route of this number in a round
+abbrev pub lines_of : JobShape → ℕ → ℕ → List ℕ
+lines_of job number round = lines_at job round (slice_get job.routes number)
+
 -- these are the routes from this number on, or some of them
 abbrev pub StandFrom : List Route → ℕ → List Route → Type 0
 StandFrom all from routes = (k : ℕ) (route : Route) → slice_get routes k ≡ Some route

@@ -10,6 +10,6 @@ mod value;
 mod words;
 
 pub use pieces::Pieces;
-pub use report::{put_stones, write_report, write_round_line, write_routes};
+pub use report::{put_stones, write_ended, write_report, write_round_line, write_routes};
 pub use value::{put_quoted, put_value};
 pub use words::{put_counted, put_reason};

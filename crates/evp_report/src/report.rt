@@ -1,10 +1,12 @@
 //! The report of a job: each round, and what the last stone of each route did in it.
-ghost use Rattle.std.specs.Prelude.{◌≡◌, ◌+◌, ◌<◌, ◌^◌, Some, length, map, slice_get};
+ghost use Rattle.std.specs.Prelude.{◌≡◌, ◌+◌, ◌<◌, ◌^◌, Some, All, length, map, slice_get};
 ghost use Rattle.evp_depot.specs.Put.{Puts};
 ghost use Rattle.evp_report.specs.Passing.{Passes};
-ghost use Rattle.evp_report.specs.Report.{report, round_line, round_lines, route_name};
-ghost use Rattle.evp_report.specs.Report.{routes_lines, source_name, stones_text};
-ghost use Rattle.evp_report.specs.Report.{told_in, told_of, StandFrom};
+ghost use Rattle.evp_report.specs.Report.{report, round_line, round_lines, route_lines};
+ghost use Rattle.evp_report.specs.Report.{route_name, routes_lines, source_name, stones_text};
+ghost use Rattle.evp_report.specs.Report.{told_in, told_of, lines_of, StandFrom};
+ghost use Rattle.evp_report.specs.Shown.{IsReadable, shown};
+ghost use Rattle.evp_stone.specs.Ended.{AreEnded};
 ghost use Rattle.evp_stone.specs.WholeAccounts.{AreAccounts};
 
 use crate::Pieces;
@@ -13,7 +15,7 @@ use crate::accounts::round_account;
 use crate::words::put_counted;
 use evp_depot::{PutFault, Sink};
 use evp_graph::Route;
-use evp_stone::{Account, Job};
+use evp_stone::{Account, Job, RoundAccount};
 
 /// Writes the report of a job, by the accounts of its stones in their order. `Failed` comes where a
 /// write failed; a front of the report may have been put then. It takes no memory.
@@ -131,6 +133,26 @@ fn put_routes<K: Sink>(
     Ok(())
 }
 
+/// Writes the lines that the route of this number has in a round, by the accounts of the rounds that
+/// its last stone has ended. `Failed` comes where a write failed; a front of the lines may have been
+/// put then. It takes no memory.
+pub fn write_ended<K: Sink>(
+    job: &Job,
+    number: usize,
+    ended: &[RoundAccount],
+    round: usize,
+    sink: &mut K,
+) -> Result<(), PutFault>
+    requires ended { AreEnded job.now number ended.now }
+    requires round { round < length ended.now }
+    ensures { Puts K.faults K.put sink.old sink.new (lines_of job.now number round) result }
+{
+    let mut pieces = Pieces::new();
+    let route = &job.parts().routes.as_slice()[number];
+    put_told(&mut pieces, sink, job, route, &ended[round])?;
+    pieces.flush(sink)
+}
+
 // A route's name, and its account of a round.
 fn put_route<K: Sink>(
     pieces: &mut Pieces,
@@ -149,6 +171,21 @@ fn put_route<K: Sink>(
     let Some(account) = round_account(job, accounts, number, round) else {
         return Ok(());
     };
+    put_told(pieces, sink, job, route, account)
+}
+
+// A route's name, and this account.
+fn put_told<K: Sink>(
+    pieces: &mut Pieces,
+    sink: &mut K,
+    job: &Job,
+    route: &Route,
+    account: &RoundAccount,
+) -> Result<(), PutFault>
+    requires { All (IsReadable job.now.formats) account.now.arrived.items }
+    ensures { Passes K.faults K.put sink.old sink.new pieces.old pieces.new
+        (route_lines (route_name job.now route.now) (shown job.now.formats account.now)) result }
+{
     put_name(pieces, sink, job, route)?;
     put_account(pieces, sink, job.parts().formats.as_slice(), account)
 }

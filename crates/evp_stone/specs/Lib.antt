@@ -5,6 +5,7 @@ pub mod Carried
 pub mod Closed
 pub mod Closing
 pub mod Dealing
+pub mod Ended
 pub mod Entries
 pub mod Fed
 pub mod Feeding

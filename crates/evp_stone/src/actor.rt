@@ -1,7 +1,8 @@
 //! Actors.
-ghost use Rattle.std.specs.Prelude.{◌≡◌, ◌⊎◌, ◌+◌, ◌<◌, length, IfOk};
+ghost use Rattle.std.specs.Prelude.{◌≡◌, ◌⊎◌, ◌+◌, ◌<◌, length, IfOk, IfSome};
 ghost use Rattle.evp_cache.specs.Known.{Cells, IsCacheOf};
 ghost use Rattle.evp_stone.specs.Actor.{HasRole, HasActed};
+ghost use Rattle.evp_stone.specs.Ended.{AreEnded};
 ghost use Rattle.evp_stone.specs.Job.{IsJob};
 ghost use Rattle.evp_stone.specs.JobShape.{JobShape};
 ghost use Rattle.evp_stone.specs.Opening.{IsNumbered, IsOpening, Opens, IsFresh};
@@ -11,7 +12,7 @@ ghost use Rattle.evp_stone.specs.Roles.{CanGo, Goes};
 ghost use Rattle.evp_stone.specs.Tallied.{IsAccount};
 ghost use Rattle.evp_stone.specs.Turned.{counted, starved_by, HasTurned};
 
-use crate::account::Account;
+use crate::account::{Account, RoundAccount};
 use crate::feeder::Feeder;
 use crate::job::Job;
 use crate::port::Port;
@@ -160,6 +161,19 @@ impl Actor {
         match role {
             Role::Source(_) => unreachable!(),
             Role::Stone(worker) => worker.account(builds, starved),
+        }
+    }
+
+    /// The number of the route at a place among those that end in the actor's stone, and the
+    /// accounts of the rounds that it has ended there; none behind the last, and of a source's actor.
+    pub fn ended(&self, place: usize) -> Option<(u16, &[RoundAccount])>
+        ensures { (job : JobShape) (cells : Cells) (taken given : Counting)
+            → HasActed job cells taken given self.now
+            → IfSome result (λ found. AreEnded job found.0 found.1.now) }
+    {
+        match &self.role {
+            Role::Source(_) => None,
+            Role::Stone(worker) => worker.ended(place),
         }
     }
 

@@ -1,6 +1,7 @@
-//! The account of a stone's actor whose rounds have all ended.
-ghost use Rattle.std.specs.Prelude.{◌≡◌, ◌≤◌, [], map, vec_len, vec_capacity};
+//! The account of a stone's actor whose rounds have all ended, and those of the rounds so far.
+ghost use Rattle.std.specs.Prelude.{◌≡◌, ◌≤◌, [], map, vec_len, vec_capacity, IfSome};
 ghost use Rattle.evp_stone.specs.Closing.{account_of, HasRoomFor};
+ghost use Rattle.evp_stone.specs.Ended.{AreEnded};
 ghost use Rattle.evp_stone.specs.Job.{IsJob};
 ghost use Rattle.evp_stone.specs.JobShape.{JobShape};
 ghost use Rattle.evp_stone.specs.Port.{Counting};
@@ -9,7 +10,7 @@ ghost use Rattle.evp_stone.specs.State.{HasState};
 ghost use Rattle.evp_stone.specs.Tallied.{IsAccount};
 ghost use Rattle.evp_stone.specs.Turned.{HasEnded};
 
-use crate::account::{Account, RouteAccount};
+use crate::account::{Account, RoundAccount, RouteAccount};
 use crate::route_work::RouteWork;
 use crate::worker::Worker;
 
@@ -31,6 +32,17 @@ impl Worker {
             builds,
             starved,
         }
+    }
+
+    /// The number of the route at a place, and the accounts of the rounds that it has ended; none
+    /// behind the last route.
+    pub(crate) fn ended(&self, place: usize) -> Option<(u16, &[RoundAccount])>
+        ensures { (job : JobShape) (taken given : Counting)
+            → HasState job taken given (seen self.now)
+            → IfSome result (λ found. AreEnded job found.0 found.1.now) }
+    {
+        let work = self.routes.as_slice().get(place)?;
+        Some((work.route, work.ended.as_slice()))
     }
 }
 

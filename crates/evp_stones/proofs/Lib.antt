@@ -16,6 +16,7 @@ pub mod OneReport
 pub mod Runs
 pub mod DecimalNumbers
 pub mod Worlds
+pub mod LeftOf
 pub mod Lines
 pub mod Turns
 pub mod Pushed
@@ -37,4 +38,3 @@ pub mod JobTotals
 pub mod MadeJobs
 pub mod FourSources
 mod BenchExamples
-pub mod RoundsBehind

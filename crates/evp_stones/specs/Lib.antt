@@ -16,6 +16,7 @@ pub mod RecordFiles
 pub mod WholeJob
 pub mod Order
 pub mod Run
+pub mod Told
 pub mod Totals
 pub mod AccountTotals
 pub mod Accepted
@@ -29,5 +30,4 @@ pub mod OutputText
 pub mod Answer
 pub mod Completeness
 pub mod Laws
-pub mod Texts
 pub mod MadeFiles

@@ -7,27 +7,32 @@ ghost use Rattle.evp_stones.specs.Summary.{summary_text};
 ghost use Rattle.evp_stones.specs.Words.{AreWorkers};
 
 mod beside;
-mod digest;
 mod hashing;
 mod kept_text;
 mod laws;
+mod lines;
 mod made_job;
 mod made_source;
+mod pen;
 mod room;
-mod round_texts;
 mod summary;
+mod texts;
+mod told;
 mod totals;
 
 use crate::carried::Carried;
-use digest::report_digest;
 use evp_base::Memory;
 use evp_crew::Gate;
+use evp_stone::Job;
 use made_job::made_job;
 use std::alloc::Global;
+use std::marker::Brand;
 use std::mem;
 use std::sync::Wait;
 use std::thread::Threads;
 pub use summary::Summary;
+use texts::Texts;
+use told::OfJob;
 pub(crate) use totals::{Totals, job_totals};
 
 /// What carrying the large job with so many records of each source, by so many workers, comes to.
@@ -45,12 +50,45 @@ pub fn bench<R: Threads + Wait + Sync, G: Gate + Sync>(
     ensures { IfOk result (λ summary. IsBench records (Ok (summary_text summary))) }
 {
     let job = made_job(rt, alloc, records, workers)?;
-    let carried = Carried::by_workers(rt, alloc, job, workers, gate)?;
-    let digest = report_digest(rt, alloc, &carried, workers as usize)?;
+    let (carried, digest) = with_digest(rt, alloc, job, workers, gate)?;
     let summary = summary_of(records, &carried, digest);
     // The program ends soon, and then all memory goes back at once.
     mem::forget(carried);
     Ok(summary)
+}
+
+// The job, carried by so many workers, and the SHA-256 of its report.
+fn with_digest<R: Threads + Wait + Sync, G: Gate + Sync>(
+    rt: &R,
+    alloc: Global,
+    job: Job,
+    workers: u32,
+    gate: &G,
+) -> Result<(Carried, [u8; 32]), Memory>
+    requires { AreWorkers workers }
+    ensures carried { IfOk result (λ made. made.0 ≡ job) }
+    ensures digest { IfOk result (λ made. made.1 ≡ sha256 (report made.0)) }
+{
+    carried_and_hashed::<Brand, R, G>(rt, alloc, job, workers, gate)
+}
+
+// The job, carried by so many workers, and the SHA-256 of its report, which is hashed meanwhile.
+fn carried_and_hashed<J: OfJob + Send + Sync, R: Threads + Wait + Sync, G: Gate + Sync>(
+    rt: &R,
+    alloc: Global,
+    job: Job,
+    workers: u32,
+    gate: &G,
+) -> Result<(Carried, [u8; 32]), Memory>
+    requires job { J.job ≡ job }
+    requires workers { AreWorkers workers }
+    ensures carried { IfOk result (λ made. made.0 ≡ job) }
+    ensures digest { IfOk result (λ made. made.1 ≡ sha256 (report made.0)) }
+{
+    let texts = Texts::<J>::new(alloc, &job)?;
+    let carried = Carried::watched(rt, alloc, job, workers, gate, &texts)?;
+    let digest = texts.digest(&carried);
+    Ok((carried, digest))
 }
 
 // What is told of a job that was carried.

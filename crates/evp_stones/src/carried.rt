@@ -7,11 +7,11 @@ ghost use Rattle.evp_stones.specs.Words.{AreWorkers};
 use crate::bench::{Totals, job_totals};
 use evp_base::Memory;
 use evp_core::World;
-use evp_crew::{Gate, carry};
+use evp_crew::{Gate, NoWatch, Watch, carry_watched};
 use evp_depot::{PutFault, Sink};
 use evp_graph::Route;
 use evp_report::{write_report, write_routes};
-use evp_stone::{Account, Job, RoundAccount};
+use evp_stone::{Account, Job};
 use std::alloc::Global;
 use std::marker::Model;
 use std::sync::Wait;
@@ -58,7 +58,23 @@ impl Carried {
         requires { AreWorkers workers }
         ensures { IfOk result (λ carried. carried ≡ job) }
     {
-        let accounts = accounts_by(rt, alloc, &job, workers, gate)?;
+        Carried::watched(rt, alloc, job, workers, gate, &NoWatch)
+    }
+
+    /// The same. The watch looks at each actor behind the turns that a worker did with it.
+    pub fn watched<R: Threads + Wait + Sync, G: Gate + Sync, W: Watch + Sync>(
+        rt: &R,
+        alloc: Global,
+        job: Job,
+        workers: u32,
+        gate: &G,
+        watch: &W,
+    ) -> Result<Carried, Memory>
+        requires workers { AreWorkers workers }
+        requires watch { W.is_for watch.now job }
+        ensures { IfOk result (λ carried. carried ≡ job) }
+    {
+        let accounts = accounts_by(rt, alloc, &job, workers, gate, watch)?;
         Ok(Carried { job, accounts })
     }
 
@@ -106,29 +122,6 @@ impl Carried {
         self.job.parts().routes.as_slice()
     }
 
-    /// How many records the lines of the route of this number name in a round, as far as its account
-    /// is found. It only says how long those lines take, and nothing is promised of it.
-    pub fn named_count(&self, number: usize, round: usize) -> u128 {
-        match self.round_account(number, round) {
-            None => 0,
-            Some(account) => account.refused.len() as u128 + account.arrived.len() as u128,
-        }
-    }
-
-    // The account of a round of the route of this number: those of its last stone stand in the order
-    // of routes.
-    fn round_account(&self, number: usize, round: usize) -> Option<&RoundAccount> {
-        let route = self.job.parts().routes.as_slice().get(number)?;
-        let stone = *route.stones.as_slice().last()?;
-        let account = self.accounts.as_slice().get(usize::from(stone))?;
-        let routes = account.routes.as_slice();
-        let number = u16::try_from(number).ok()?;
-        let at = routes
-            .binary_search_by_key(&number, |account| account.route)
-            .ok()?;
-        routes.get(at)?.rounds.as_slice().get(round)
-    }
-
     /// Writes the lines that some routes have in a round; the routes are those of the job from
     /// number `from` on. It takes no memory.
     pub fn write_routes<K: Sink>(
@@ -148,17 +141,19 @@ impl Carried {
 }
 
 // The accounts of the job's stones, carried by so many workers.
-fn accounts_by<R: Threads + Wait + Sync, G: Gate + Sync>(
+fn accounts_by<R: Threads + Wait + Sync, G: Gate + Sync, W: Watch + Sync>(
     rt: &R,
     alloc: Global,
     job: &Job,
     workers: u32,
     gate: &G,
+    watch: &W,
 ) -> Result<Vec<Account>, Memory>
-    requires { AreWorkers workers }
+    requires workers { AreWorkers workers }
+    requires watch { W.is_for watch.now job.now }
     ensures { IfOk result (λ accounts. AreAccounts job.now accounts.items) }
 {
-    let carried = carry(rt, alloc, job, workers, gate)?;
+    let carried = carry_watched(rt, alloc, job, workers, gate, watch)?;
     Ok(carried.accounts())
 }
 

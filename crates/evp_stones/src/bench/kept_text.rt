@@ -1,11 +1,12 @@
 //! Text of a report that is kept in memory.
-ghost use Rattle.std.specs.Prelude.{◌≡◌, ◌+◌, ◌<◌, ◌^◌, IfOk, length};
-ghost use Rattle.evp_report.specs.Report.{routes_lines, StandFrom};
+ghost use Rattle.std.specs.Prelude.{◌≡◌, ◌<◌, IfOk, length};
+ghost use Rattle.evp_report.specs.Report.{lines_of};
+ghost use Rattle.evp_stone.specs.Ended.{AreEnded};
 
-use crate::carried::Carried;
 use evp_base::Memory;
 use evp_depot::{Sink, SinkFault};
-use evp_graph::Route;
+use evp_report::write_ended;
+use evp_stone::{Job, RoundAccount};
 use std::alloc::Global;
 use std::marker::Model;
 
@@ -62,21 +63,21 @@ impl Sink for KeptText {
     }
 }
 
-/// The lines that some routes have in a round; the routes are those of the job from number `from`
-/// on.
-pub(super) fn routes_text(
+/// The lines that a route has in a round, by the accounts of the rounds that its last stone has
+/// ended.
+pub(super) fn ended_text(
     alloc: Global,
-    carried: &Carried,
+    job: &Job,
+    route: usize,
+    ended: &[RoundAccount],
     round: usize,
-    from: usize,
-    routes: &[Route],
 ) -> Result<Vec<u8>, Memory>
-    requires stand { StandFrom carried.now.routes from routes.now }
-    requires few { from + length routes.now < 2 ^ 64 }
-    ensures { IfOk result (λ text. text.items ≡ routes_lines carried.now round routes.now) }
+    requires ended { AreEnded job.now route ended.now }
+    requires round { round < length ended.now }
+    ensures { IfOk result (λ text. text.items ≡ lines_of job.now route round) }
 {
     let mut sink = KeptText::new(alloc);
-    match carried.write_routes(round, from, routes, &mut sink) {
+    match write_ended(job, route, ended, round, &mut sink) {
         Ok(()) => Ok(sink.into_text()),
         Err(_) => Err(Memory),
     }

@@ -17,8 +17,8 @@ rotas_of-requires g c = λ k d below.
     let seat = there_below seats k below in
     subst (IsOfThree t) (sym (get_or_from_slice_get seats k seat.0 d seat.1)) (c.in_ok-crew.ensures.each k seat.0 seat.1).of
 
-pub work_all-requires-after_bounds : goal.work_all-requires-after_bounds
-work_all-requires-after_bounds g c κs within =
+pub work_all-requires-clause-work : goal.work_all-requires-clause-work
+work_all-requires-clause-work g c κs within =
     let t = three c.args.job.now c.args.cache.now c.in_ok-crew.crew in
     subst (AllWork c.as_slice.result.now t) (sym c.as_mut_slice-2.ensures.value) c.in_ok-all.ensures.work
 

@@ -13,7 +13,7 @@ pub turns-turn-requires : goal.turns-turn-requires
 turns-turn-requires g c =
     let t = three c.args.office.now.job.now c.args.office.now.cache.now c.args.office.now.crew.now in
     let seat : SeatShape = seat_of c.seat.inside in
-    let of : IsOfThree t seat = subst (IsOfThree t) (sym c.seat.view_is) c.requires in
+    let of : IsOfThree t seat = subst (IsOfThree t) (sym c.seat.view_is) c.requires.seat in
     let began = c.new-port.ensures
     ∙ ap (λ (p : Passes). record { crew = t.crew; job = t.job; passes = p })
     (c.replace.ensures.value ∙ ap (λ (e : Equipped). e.passes) c.deref_mut.ensures.value) in
@@ -24,6 +24,6 @@ pub invariant_of-seat : goal.invariant_of-seat
 invariant_of-seat g c =
     let t = three c.args.office.now.job.now c.args.office.now.cache.now c.args.office.now.crew.now in
     let seat : SeatShape = seat_of c.seat.inside in
-    let of : IsOfThree t seat = subst (IsOfThree t) (sym c.seat.view_is) c.requires in
+    let of : IsOfThree t seat = subst (IsOfThree t) (sym c.seat.view_is) c.requires.seat in
     gets_up t seat c.turns-turn.new.actor c.turns-turn.new.port c.into_passes.result of c.turns-turn.ensures.sits
     c.into_passes.ensures.passes

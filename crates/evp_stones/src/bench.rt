@@ -24,6 +24,7 @@ use crate::carried::Carried;
 use evp_base::Memory;
 use evp_crew::Gate;
 use evp_stone::Job;
+use hashing::Hashing;
 use made_job::made_job;
 use std::alloc::Global;
 use std::marker::Brand;
@@ -57,7 +58,8 @@ pub fn bench<R: Threads + Wait + Sync, G: Gate + Sync>(
     Ok(summary)
 }
 
-// The job, carried by so many workers, and the SHA-256 of its report.
+// The job, carried by so many workers, and the SHA-256 of its report. One worker has nobody that
+// could hash meanwhile, so its texts aren't kept.
 fn with_digest<R: Threads + Wait + Sync, G: Gate + Sync>(
     rt: &R,
     alloc: Global,
@@ -69,7 +71,12 @@ fn with_digest<R: Threads + Wait + Sync, G: Gate + Sync>(
     ensures carried { IfOk result (λ made. made.0 ≡ job) }
     ensures digest { IfOk result (λ made. made.1 ≡ sha256 (report made.0)) }
 {
-    carried_and_hashed::<Brand, R, G>(rt, alloc, job, workers, gate)
+    if workers > 1 {
+        return carried_and_hashed::<Brand, R, G>(rt, alloc, job, workers, gate);
+    }
+    let carried = Carried::by_workers(rt, alloc, job, workers, gate)?;
+    let digest = digest_alone(&carried);
+    Ok((carried, digest))
 }
 
 // The job, carried by so many workers, and the SHA-256 of its report, which is hashed meanwhile.
@@ -89,6 +96,17 @@ fn carried_and_hashed<J: OfJob + Send + Sync, R: Threads + Wait + Sync, G: Gate 
     let carried = Carried::watched(rt, alloc, job, workers, gate, &texts)?;
     let digest = texts.digest(&carried);
     Ok((carried, digest))
+}
+
+// The SHA-256 of the report of a job that was carried, hashed as it is written.
+fn digest_alone(carried: &Carried) -> [u8; 32]
+    ensures { result ≡ sha256 (report carried.now) }
+{
+    let mut sink = Hashing::new();
+    match carried.write(&mut sink) {
+        Ok(()) => sink.digest(),
+        Err(_) => unreachable!(),
+    }
 }
 
 // What is told of a job that was carried.

@@ -11,7 +11,6 @@ pub mod Rotas
 pub mod Rotation
 pub mod SeatOpens
 pub mod Seated
-pub mod Serving
 pub mod Sitting
 pub mod Taking
 pub mod Through

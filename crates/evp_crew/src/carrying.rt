@@ -1,10 +1,11 @@
 //! The carrying of a job: by workers, and where they leave something by the caller alone.
-ghost use Rattle.std.specs.Prelude.{◌≡◌, ◌≤◌, length, IfOk, IfSome};
+ghost use Rattle.std.specs.Prelude.{◌≡◌, ◌≤◌, length, Some, IfOk, IfSome};
 ghost use Rattle.evp_cache.specs.Known.{IsCacheOf};
+ghost use Rattle.evp_crew.specs.declared.three.Three.{Three};
 ghost use Rattle.evp_crew.specs.Carried.{IsCarried};
 ghost use Rattle.evp_crew.specs.Done.{WorksAt};
 ghost use Rattle.evp_crew.specs.Gathering.{AllWork};
-ghost use Rattle.evp_crew.specs.Rota.{three, AreServing};
+ghost use Rattle.evp_crew.specs.Rota.{three, three_of, ServesIn};
 
 use crate::alone::alone;
 use crate::apart::each_apart;
@@ -12,9 +13,10 @@ use crate::carried::Carried;
 use crate::crew::Crew;
 use crate::gate::Gate;
 use crate::gathering::gathered;
-use crate::seating::{add, more_desks, rotas_of};
+use crate::rota::{Rota, RotaPass};
+use crate::seating::{add, put_all};
 use crate::watch::{NoWatch, Watch};
-use crate::worker::{Desk, Office, Worker};
+use crate::worker::{Office, Worker};
 use evp_base::Memory;
 use evp_cache::PlanCache;
 use evp_stone::Job;
@@ -76,17 +78,17 @@ fn by_workers<R: Threads + Wait + Sync, G: Gate + Sync, W: Watch + Sync>(
 {
     let (crew, seats) = Crew::new(rt, alloc, job, cache)?;
     let count = seats.len();
-    let Some((rotas, mut desks)) = rotas_of(rt, alloc, job, cache, &crew, seats)? else {
+    let (rota, mut pass) = Rota::new(rt, alloc, job, cache, &crew)?;
+    if !put_all(rt, &rota, &mut pass, seats) {
         return Ok(None);
-    };
+    }
+    let mut all = hired(rt, alloc, &rota, &mut pass, workers, count)?;
     let office = Office {
         job,
         cache,
         crew: &crew,
-        rotas: rotas.as_slice(),
-        workers,
+        rota: &rota,
     };
-    let mut all = hired(rt, alloc, &office, desks.as_mut_slice())?;
     work_all(rt, &office, gate, watch, all.as_mut_slice());
     match gathered(alloc, count, all)? {
         Some(seats) => Ok(Some(Carried::new(alloc, job, cache, crew, seats)?)),
@@ -94,25 +96,27 @@ fn by_workers<R: Threads + Wait + Sync, G: Gate + Sync, W: Watch + Sync>(
     }
 }
 
-// The workers of an office, each with room for every seat.
+// So many workers at a rota, each with room for so many seats.
 fn hired<R: Wait>(
     rt: &R,
     alloc: Global,
-    office: &Office<'_>,
-    desks: &mut [Desk],
+    rota: &Rota,
+    pass: &mut RotaPass,
+    workers: u32,
+    count: usize,
 ) -> Result<Vec<Worker>, Memory>
-    requires { AreServing (three office.now.job.now office.now.cache.now office.now.crew.now)
-        office.now.rotas.now desks.old }
-    ensures work { IfOk result (λ all. AllWork office.now.rotas.now
-        (three office.now.job.now office.now.cache.now office.now.crew.now) all.items) }
-    ensures each { IfOk result (λ all. length all.items ≡ office.now.workers) }
+    requires { ServesIn rota.now pass.old }
+    ensures work { (t : Three) → three_of pass.old ≡ Some t
+        → IfOk result (λ all. AllWork rota.now t all.items) }
+    ensures each { IfOk result (λ all. length all.items ≡ workers) }
 {
-    let mut all = Vec::with_capacity(alloc, office.workers as usize)?;
-    for number in 0..office.workers {
+    let mut all = Vec::with_capacity(alloc, workers as usize)?;
+    for number in 0..workers {
         let worker = Worker {
             number,
-            desks: more_desks(rt, alloc, office, desks)?,
-            closed: Vec::with_capacity(alloc, office.rotas.len())?,
+            pass: rota.split(rt, pass)?,
+            closed: Vec::with_capacity(alloc, count)?,
+            idle: 0,
         };
         add(&mut all, worker)?;
     }
@@ -128,10 +132,10 @@ fn work_all<R: Threads + Wait + Sync, G: Gate + Sync, W: Watch + Sync>(
     all: &mut [Worker],
 )
     requires watch { W.is_for watch.now office.now.job.now }
-    requires work { AllWork office.now.rotas.now
+    requires work { AllWork office.now.rota.now
         (three office.now.job.now office.now.cache.now office.now.crew.now) all.old }
     ensures long { length all.new ≡ length all.old }
-    ensures work { AllWork office.now.rotas.now
+    ensures work { AllWork office.now.rota.now
         (three office.now.job.now office.now.cache.now office.now.crew.now) all.new }
 {
     each_apart(
@@ -139,9 +143,9 @@ fn work_all<R: Threads + Wait + Sync, G: Gate + Sync, W: Watch + Sync>(
         all,
         &|_, worker: &mut Worker|
             requires { W.is_for watch.now office.now.job.now
-                × WorksAt office.now.rotas.now
+                × WorksAt office.now.rota.now
                 (three office.now.job.now office.now.cache.now office.now.crew.now) worker.now }
-            ensures { WorksAt office.entry.now.rotas.now
+            ensures { WorksAt office.entry.now.rota.now
                 (three office.entry.now.job.now office.entry.now.cache.now
                 office.entry.now.crew.now) worker.exit.now }
         { worker.work(rt, office, gate, watch) },

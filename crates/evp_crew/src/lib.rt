@@ -5,7 +5,6 @@ mod alone;
 mod apart;
 mod carried;
 mod carrying;
-mod course;
 mod crew;
 mod gate;
 mod gathering;

@@ -24,5 +24,5 @@ returns-clause-work g c = λ place worker at.
     let here = slice_get_within c.each_apart.new.all place worker at in
     let below : place < length all = omega arith in
     let change = (c.each_apart.ensures place worker below).1 in
-    subst (WorksAt office.rotas.now (three office.job.now office.cache.now office.crew.now))
+    subst (WorksAt office.rota.now (three office.job.now office.cache.now office.crew.now))
     (change.left ∙ get_or_from_slice_get c.each_apart.new.all place worker worker at) change.call

@@ -1,8 +1,8 @@
 //! Actors.
-ghost use Rattle.std.specs.Prelude.{◌≡◌, ◌⊎◌, ◌+◌, ◌<◌, length, IfOk, IfSome};
+ghost use Rattle.std.specs.Prelude.{◌≡◌, ◌⊎◌, ◌+◌, ◌<◌, ◌≤◌, length, IfOk, IfSome, IfNone};
 ghost use Rattle.evp_cache.specs.Known.{Cells, IsCacheOf};
 ghost use Rattle.evp_stone.specs.Actor.{HasRole, HasActed};
-ghost use Rattle.evp_stone.specs.Ended.{AreEnded};
+ghost use Rattle.evp_stone.specs.Ended.{AreEnded, EndsAt, route_works};
 ghost use Rattle.evp_stone.specs.Job.{IsJob};
 ghost use Rattle.evp_stone.specs.JobShape.{JobShape};
 ghost use Rattle.evp_stone.specs.Opening.{IsNumbered, IsOpening, Opens, IsFresh};
@@ -167,7 +167,10 @@ impl Actor {
     /// The number of the route at a place among those that end in the actor's stone, and the
     /// accounts of the rounds that it has ended there; none behind the last, and of a source's actor.
     pub fn ended(&self, place: usize) -> Option<(u16, &[RoundAccount])>
-        ensures { (job : JobShape) (cells : Cells) (taken given : Counting)
+        ensures there { IfSome result (λ found.
+            EndsAt (route_works self.now.role) place found.0 found.1.now) }
+        ensures behind { IfNone result (length (route_works self.now.role) ≤ place) }
+        ensures accounts { (job : JobShape) (cells : Cells) (taken given : Counting)
             → HasActed job cells taken given self.now
             → IfSome result (λ found. AreEnded job found.0 found.1.now) }
     {

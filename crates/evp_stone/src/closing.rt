@@ -1,7 +1,7 @@
 //! The account of a stone's actor whose rounds have all ended, and those of the rounds so far.
-ghost use Rattle.std.specs.Prelude.{◌≡◌, ◌≤◌, [], map, vec_len, vec_capacity, IfSome};
+ghost use Rattle.std.specs.Prelude.{◌≡◌, ◌≤◌, [], map, length, vec_len, vec_capacity, IfSome, IfNone};
 ghost use Rattle.evp_stone.specs.Closing.{account_of, HasRoomFor};
-ghost use Rattle.evp_stone.specs.Ended.{AreEnded};
+ghost use Rattle.evp_stone.specs.Ended.{AreEnded, EndsAt};
 ghost use Rattle.evp_stone.specs.Job.{IsJob};
 ghost use Rattle.evp_stone.specs.JobShape.{JobShape};
 ghost use Rattle.evp_stone.specs.Port.{Counting};
@@ -37,7 +37,10 @@ impl Worker {
     /// The number of the route at a place, and the accounts of the rounds that it has ended; none
     /// behind the last route.
     pub(crate) fn ended(&self, place: usize) -> Option<(u16, &[RoundAccount])>
-        ensures { (job : JobShape) (taken given : Counting)
+        ensures there { IfSome result (λ found.
+            EndsAt (seen self.now).routes place found.0 found.1.now) }
+        ensures behind { IfNone result (length (seen self.now).routes ≤ place) }
+        ensures accounts { (job : JobShape) (taken given : Counting)
             → HasState job taken given (seen self.now)
             → IfSome result (λ found. AreEnded job found.0 found.1.now) }
     {

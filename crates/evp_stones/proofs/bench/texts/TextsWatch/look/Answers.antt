@@ -7,4 +7,4 @@ tell-requires-clause-ended g c =
     let job = c.args.job.now in
     let acted = c.requires.acted in
     subst (λ (n : ℕ). AreEnded job n c.in-Some.ended.now) (sym c.from.ensures)
-    (c.in-Some.ensures job acted.cells acted.taken acted.given acted.state)
+    (c.in-Some.ensures.accounts job acted.cells acted.taken acted.given acted.state)

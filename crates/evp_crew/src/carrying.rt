@@ -39,7 +39,8 @@ pub fn carry<R: Threads + Wait + Sync, G: Gate + Sync>(
     carry_watched(rt, alloc, job, workers, gate, &NoWatch)
 }
 
-/// The same. The watch looks at each actor behind the turns that a worker did with it.
+/// The same. The watch looks at each actor behind the turns that a worker did with it. Where the
+/// workers leave something and this thread carries the job anew, it isn't called.
 pub fn carry_watched<R: Threads + Wait + Sync, G: Gate + Sync, W: Watch + Sync>(
     rt: &R,
     alloc: Global,

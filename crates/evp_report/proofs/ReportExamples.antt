@@ -18,7 +18,7 @@ use Rattle.evp_record.specs.OwnedBytes.{OwnedBytes}
 use Rattle.evp_stone.specs.declared.round.Round.{Round}
 use Rattle.evp_stone.specs.declared.stone.Stone.{Stone}
 use Rattle.evp_stone.specs.JobShape.{JobShape, graph_of}
-use Rattle.evp_report.specs.Report.{report, reason_text}
+use Rattle.evp_report.specs.Report.{report, reason_text, lines_of}
 
 -- one number x of so many bytes
 abbrev layout : Order → ℕ → Layout
@@ -83,6 +83,14 @@ frozen_report : report frozen ≡
     ++ codes "#0 {x=257}\n#1 {x=258}\n#2 {x=259}\n"
 unfolding digits
 frozen_report = refl
+
+-- the lines of a route in each round; none where there is no such route or round
+frozen_lines : lines_of frozen 1 0 ∷ lines_of frozen 1 1 ∷ lines_of frozen 2 0 ∷ lines_of frozen 0 2 ∷ []
+    ≡ codes "a>0>1 passed 0 dropped 0 refused 0 held 2\n"
+    ∷ (codes "a>0>1 passed 3 dropped 0 refused 0 held 0\n" ++ codes "#0 {x=257}\n#1 {x=258}\n#2 {x=259}\n")
+    ∷ [] ∷ [] ∷ []
+unfolding digits
+frozen_lines = refl
 
 -- numbers of two bytes that don't fit in one
 abbrev narrow : JobShape

@@ -9,6 +9,7 @@ pub mod Checked
 pub mod Sources
 mod LineExamples
 mod OrderExamples
+mod ToldExamples
 pub mod RecordFiles
 pub mod WholeJobs
 pub mod SameReport

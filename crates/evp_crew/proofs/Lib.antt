@@ -6,7 +6,6 @@ pub mod Giving
 pub mod Lists
 pub mod OpeningFacts
 pub mod Parted
-pub mod Places
 pub mod Rotas
 pub mod Rotation
 pub mod SeatOpens

@@ -1,5 +1,4 @@
 pub mod Alone
-pub mod Apart
 pub mod Carried
 pub mod Done
 pub mod Ends

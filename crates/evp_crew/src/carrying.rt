@@ -8,7 +8,6 @@ ghost use Rattle.evp_crew.specs.Gathering.{AllWork};
 ghost use Rattle.evp_crew.specs.Rota.{three, three_of, ServesIn};
 
 use crate::alone::alone;
-use crate::apart::each_apart;
 use crate::carried::Carried;
 use crate::crew::Crew;
 use crate::gate::Gate;
@@ -22,6 +21,7 @@ use evp_cache::PlanCache;
 use evp_stone::Job;
 use std::alloc::Global;
 use std::sync::Wait;
+use std::thread;
 use std::thread::Threads;
 
 /// Carries a job by so many workers, 1 to 64, each in a thread where one can be made. The gate is
@@ -117,7 +117,6 @@ fn hired<R: Wait>(
             number,
             pass: rota.split(rt, pass)?,
             closed: Vec::with_capacity(alloc, count)?,
-            idle: 0,
         };
         add(&mut all, worker)?;
     }
@@ -139,9 +138,11 @@ fn work_all<R: Threads + Wait + Sync, G: Gate + Sync, W: Watch + Sync>(
     ensures work { AllWork office.now.rota.now
         (three office.now.job.now office.now.cache.now office.now.crew.now) all.new }
 {
-    each_apart(
+    let threads = all.len().max(1);
+    thread::for_each_mut(
         rt,
         all,
+        threads,
         &|_, worker: &mut Worker|
             requires { W.is_for watch.now office.now.job.now
                 × WorksAt office.now.rota.now

@@ -2,7 +2,6 @@
 #![tactic(auto)]
 
 mod alone;
-mod apart;
 mod carried;
 mod carrying;
 mod crew;

@@ -27,14 +27,12 @@ pub(crate) struct Office<'a> {
     pub(crate) rota: &'a Rota,
 }
 
-/// A worker: its number, its pass of the rota, the seats that it found closed, and how many in a row
-/// moved nothing.
+/// A worker: its number, its pass of the rota, and the seats that it found closed.
 #[derive(Drop)]
 pub(crate) struct Worker {
     pub(crate) number: u32,
     pub(crate) pass: RotaPass,
     pub(crate) closed: Vec<Seat>,
-    pub(crate) idle: u32,
 }
 
 /// What a worker does next.
@@ -64,10 +62,12 @@ impl Worker {
             (three office.now.job.now office.now.cache.now office.now.crew.now) self.new }
     {
         let mut next = Next::Take;
+        // How many seats in a row moved nothing.
+        let mut idle = 0;
         for _ in rt.forever() {
             next = match next {
-                Next::Take => self.take(rt, office, watch),
-                Next::Hold(seat) => self.serve(rt, office, gate, watch, seat),
+                Next::Take => self.take(rt, office, watch, idle),
+                Next::Hold(seat) => self.serve(rt, office, gate, watch, seat, &mut idle),
                 Next::End => return,
             };
         }
@@ -76,7 +76,7 @@ impl Worker {
 
     // Takes a seat out of the rota, or ends where it is empty. It lets other threads run where the
     // last seats moved nothing.
-    fn take<R: Wait, W: Watch>(&mut self, rt: &R, office: &Office<'_>, watch: &W) -> Next
+    fn take<R: Wait, W: Watch>(&mut self, rt: &R, office: &Office<'_>, watch: &W, idle: u32) -> Next
         requires { WorksAt office.now.rota.now
             (three office.now.job.now office.now.cache.now office.now.crew.now) self.old }
         ensures works { WorksAt office.now.rota.now
@@ -85,7 +85,7 @@ impl Worker {
             (three office.now.job.now office.now.cache.now office.now.crew.now) result }
     {
         watch.rest(self.number);
-        if self.idle > MOST_IDLE {
+        if idle > MOST_IDLE {
             thread::yield_now();
         }
         match office.rota.take(rt, &mut self.pass) {
@@ -102,6 +102,7 @@ impl Worker {
         gate: &G,
         watch: &W,
         mut seat: Seat,
+        idle: &mut u32,
     ) -> Next
         requires watch { W.is_for watch.now office.now.job.now }
         requires works { WorksAt office.now.rota.now
@@ -113,15 +114,7 @@ impl Worker {
         ensures next { GoesOnWith
             (three office.now.job.now office.now.cache.now office.now.crew.now) result }
     {
-        match visit(
-            rt,
-            office,
-            gate,
-            watch,
-            self.number,
-            &mut seat,
-            &mut self.idle,
-        ) {
+        match visit(rt, office, gate, watch, self.number, &mut seat, idle) {
             Turn::Closed => {
                 let _number = seat.number();
                 match self.closed.push(seat) {

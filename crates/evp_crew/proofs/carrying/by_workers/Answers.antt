@@ -1,11 +1,23 @@
 use Rattle.std.proofs.Common.{◌≡◌, ℕ, sym, subst, ◌∙◌, arith}
 use Rattle.std.proofs.lemmas.List.{with_items_is}
+use Rattle.std.proofs.lemmas.Option.{get_or_from_slice_get}
 use Rattle.std.specs.Prelude.{IfSome}
+use Rattle.evp_stone.proofs.Elements.{there_below}
 use Rattle.evp_crew.specs.Carried.{AreFirst}
 use Rattle.evp_crew.specs.Gathering.{AllWork}
 use Rattle.evp_crew.specs.Parting.{actors_of}
 use Rattle.evp_crew.specs.Rota.{three}
+use Rattle.evp_crew.specs.Rule.{IsOfThree}
+use Rattle.evp_crew.proofs.Working.{served_by}
 use Rattle.evp_crew.proofs.carrying.by_workers.Goals as goal
+
+pub put_all-requires-clause-seats : goal.put_all-requires-clause-seats
+put_all-requires-clause-seats g c = λ k d below.
+    let t = three c.args.job.now c.args.cache.now c.in_ok-crew.crew in
+    let seats = c.in_ok-crew.seats.items in
+    let seat = there_below seats k below in
+    served_by _ t _ c.in_ok-rota.ensures.three
+    (subst (IsOfThree t) (sym (get_or_from_slice_get seats k seat.0 d seat.1)) (c.in_ok-crew.ensures.each k seat.0 seat.1).of)
 
 pub work_all-requires-clause-work : goal.work_all-requires-clause-work
 work_all-requires-clause-work g c κs within =

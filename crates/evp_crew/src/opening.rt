@@ -11,6 +11,7 @@ use crate::passes::{Passes, Taker};
 use crate::seat::{Equipped, Seat};
 use crate::seating::add;
 use crate::ways::ways;
+use crossbeam_utils::CachePadded;
 use evp_base::Memory;
 use evp_cache::PlanCache;
 use evp_queue::{GivePass, StoneQueue};
@@ -146,7 +147,8 @@ fn seat(
 {
     let _kept = job.parts();
     let actor = Actor::new(alloc, job, cache, number)?;
-    let equipped = Box::new(alloc, Equipped { actor, passes })?;
+    let equipped = CachePadded::new(Equipped { actor, passes });
+    let equipped = Box::new(alloc, equipped)?;
     Ok(Seat {
         number,
         equipped,

@@ -14,6 +14,7 @@ ghost use Rattle.evp_crew.specs.Seat.{IsSeat, IsOf};
 use crate::crew::Crew;
 use crate::passes::Passes;
 use crate::port::CrewPort;
+use crossbeam_utils::CachePadded;
 use evp_cache::PlanCache;
 use evp_stone::{Account, Actor, Job, Turn};
 use std::marker::Model;
@@ -32,8 +33,9 @@ pub(crate) struct Equipped {
 #[derive(Drop)]
 pub struct Seat {
     pub(crate) number: u16,
-    // On the heap, so that a rota moves little.
-    pub(crate) equipped: Box<Equipped>,
+    // On the heap, so that a rota moves little, and on cache lines of its own, since other workers
+    // write to the seats beside it.
+    pub(crate) equipped: Box<CachePadded<Equipped>>,
     // For the proofs: of which job, cache and crew it is.
     pub(crate) job: Snapshot<Job>,
     pub(crate) cache: Snapshot<PlanCache>,
@@ -92,7 +94,7 @@ impl Seat {
         ensures turned { HasTurned job.now (counts_of job.now self.old.passes)
             (counts_of job.now self.new.passes) self.old.actor self.new.actor result }
     {
-        let Equipped { actor, passes } = &mut *self.equipped;
+        let Equipped { actor, passes } = &mut **self.equipped;
         let none = Passes::none(passes.alloc);
         let mut port = CrewPort::new(rt, crew, job, mem::replace(passes, none));
         let turn = actor.turn(job, cache, &mut port);
@@ -109,7 +111,7 @@ impl Seat {
             → IsAccount job result }
     {
         let Seat { equipped, .. } = self;
-        let Equipped { actor, .. } = Box::into_inner(equipped);
+        let Equipped { actor, .. } = Box::into_inner(equipped).into_inner();
         actor.account()
     }
 }

@@ -39,7 +39,7 @@ pub(crate) fn visit<R: Wait, G: Gate, W: Watch>(
     ensures closed { IfClosed result (IsClosed office.now.job.now seat.new.actor.role) }
 {
     let number = seat.number;
-    let Equipped { actor, passes } = &mut *seat.equipped;
+    let Equipped { actor, passes } = &mut **seat.equipped;
     let none = Passes::none(passes.alloc);
     let mut port = CrewPort::new(rt, office.crew, office.job, mem::replace(passes, none));
     let turn = turns(office, gate, worker, number, actor, &mut port, idle);

@@ -10,6 +10,12 @@ use evp_stone::{Job, RoundAccount};
 use std::alloc::Global;
 use std::marker::Model;
 
+// About how many bytes a line takes beside the bytes of its record, and a line without one.
+const LINE: usize = 32;
+
+// About how many bytes the line takes that says what a route did in a round.
+const FIRST_LINE: usize = 96;
+
 /// A sink that keeps what it takes. It fails where there is no memory.
 #[derive(Drop)]
 struct KeptText {
@@ -26,16 +32,16 @@ impl Model for KeptText {
 }
 
 impl KeptText {
-    ghost use Rattle.std.specs.Prelude.{◌≡◌, []};
+    ghost use Rattle.std.specs.Prelude.{◌≡◌, [], IfOk};
 
-    // Nothing is kept.
-    fn new(alloc: Global) -> KeptText
-        ensures { result ≡ ([], 0) }
+    // Nothing is kept; there is room for so many bytes.
+    fn with_room(alloc: Global, room: usize) -> Result<KeptText, Memory>
+        ensures { IfOk result (λ kept. kept ≡ ([], 0)) }
     {
-        KeptText {
-            text: Vec::new(alloc),
+        Ok(KeptText {
+            text: Vec::with_capacity(alloc, room)?,
             faults: 0,
-        }
+        })
     }
 
     // What was kept.
@@ -76,9 +82,21 @@ pub(super) fn ended_text(
     requires round { round < length ended.now }
     ensures { IfOk result (λ text. text.items ≡ lines_of job.now route round) }
 {
-    let mut sink = KeptText::new(alloc);
+    let mut sink = KeptText::with_room(alloc, room_for(&ended[round]))?;
     match write_ended(job, route, ended, round, &mut sink) {
         Ok(()) => Ok(sink.into_text()),
         Err(_) => Err(Memory),
     }
+}
+
+// About as many bytes as the lines of this account take. It reads each record that arrived once, and
+// so these reads don't wait for one another, as those of the lines do.
+fn room_for(account: &RoundAccount) -> usize {
+    let refused = account.refused.len().saturating_mul(LINE);
+    let mut room = refused.saturating_add(FIRST_LINE);
+    for (_, owned) in account.arrived.as_slice() {
+        let line = owned.bytes().len().saturating_add(LINE);
+        room = room.saturating_add(line);
+    }
+    room
 }

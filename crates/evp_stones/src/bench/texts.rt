@@ -7,6 +7,7 @@ use super::lines::Lines;
 use super::pen::Pen;
 use super::told::OfJob;
 use crate::carried::Carried;
+use crossbeam_utils::CachePadded;
 use evp_base::Memory;
 use evp_crew::Watch;
 use evp_stone::{Actor, Job};
@@ -20,7 +21,8 @@ use std::sync::Mutex;
 pub(super) struct Texts<J: OfJob> {
     alloc: Global,
     lines: Lines<J>,
-    pen: Mutex<Pen<J>>,
+    // The first worker writes it all the time, and all read what is above.
+    pen: CachePadded<Mutex<Pen<J>>>,
 }
 
 impl<J: OfJob> Texts<J> {
@@ -31,7 +33,7 @@ impl<J: OfJob> Texts<J> {
         Ok(Texts {
             alloc,
             lines: Lines::new(alloc, job)?,
-            pen: Mutex::new(Pen::new()),
+            pen: CachePadded::new(Mutex::new(Pen::new())),
         })
     }
 
@@ -41,7 +43,7 @@ impl<J: OfJob> Texts<J> {
         ensures { result ≡ sha256 (report carried.now) }
     {
         let Texts { lines, pen, .. } = self;
-        let mut pen = pen.into_inner();
+        let mut pen = pen.into_inner().into_inner();
         let each = lines.routes().saturating_add(1);
         for _ in 0..lines.rounds().saturating_mul(each) {
             if !pen.go_on(&lines) {

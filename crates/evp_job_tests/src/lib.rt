@@ -14,4 +14,8 @@ mod tests_limits;
 #[cfg(test)]
 mod tests_order;
 #[cfg(test)]
+mod tests_rounds;
+#[cfg(test)]
+mod tests_settings;
+#[cfg(test)]
 mod tests_stones;

@@ -86,7 +86,8 @@ const ROWS: [(&str, &[&str], &str); 20] = [
         "an expression before the next setting's field",
         &[
             HEAD,
-            "{\"kind\":\"transform\",\"format\":\"q\",\"into\":\"l\",\"set\":[[\"y\",\"x $\"],[\"z\",\"x\"]],\"target\":1},{\"kind\":\"terminal\",\"format\":\"q\"}",
+            "{\"kind\":\"transform\",\"format\":\"q\",\"into\":\"l\",\"set\":[[\"y\",\"x $\"],[\"z\",\"x\"]],\"target\":1},",
+            "{\"kind\":\"terminal\",\"format\":\"q\"}",
             END,
         ],
         "expression 0 of stone 0: token at 2",
@@ -95,7 +96,8 @@ const ROWS: [(&str, &[&str], &str); 20] = [
         "a name before the next setting's field",
         &[
             HEAD,
-            "{\"kind\":\"transform\",\"format\":\"q\",\"into\":\"l\",\"set\":[[\"y\",\"y\"],[\"z\",\"x\"]],\"target\":1},{\"kind\":\"terminal\",\"format\":\"q\"}",
+            "{\"kind\":\"transform\",\"format\":\"q\",\"into\":\"l\",\"set\":[[\"y\",\"y\"],[\"z\",\"x\"]],\"target\":1},",
+            "{\"kind\":\"terminal\",\"format\":\"q\"}",
             END,
         ],
         "binding 0 of stone 0: unknown at 0",

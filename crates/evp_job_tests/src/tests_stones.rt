@@ -1,10 +1,10 @@
-//! Stones and rounds, and their faults.
+//! Stones, and their faults.
 
 use crate::documents::{END, HEAD, answer, joined};
 use std::test::Fail;
 
 // Pieces that make a document together, and the answer.
-const ROWS: [(&str, &[&str], &str); 52] = [
+const ROWS: [(&str, &[&str], &str); 28] = [
     (
         "a terminal",
         &[HEAD, "{\"kind\":\"terminal\",\"format\":\"q\"}", END],
@@ -181,127 +181,11 @@ const ROWS: [(&str, &[&str], &str); 52] = [
         "a cycle of two",
         &[
             HEAD,
-            "{\"kind\":\"split\",\"targets\":[1]},{\"kind\":\"terminal\",\"format\":\"q\"},{\"kind\":\"split\",\"targets\":[4]},{\"kind\":\"terminal\",\"format\":\"q\"},{\"kind\":\"split\",\"targets\":[2]}",
+            "{\"kind\":\"split\",\"targets\":[1]},{\"kind\":\"terminal\",\"format\":\"q\"},",
+            "{\"kind\":\"split\",\"targets\":[4]},{\"kind\":\"terminal\",\"format\":\"q\"},{\"kind\":\"split\",\"targets\":[2]}",
             END,
         ],
         "cycle 2 4",
-    ),
-    (
-        "a transform",
-        &[
-            HEAD,
-            "{\"kind\":\"transform\",\"format\":\"q\",\"into\":\"l\",\"set\":[[\"y\",\"x*x\"],[\"y\",\"-x\"]],\"target\":1},{\"kind\":\"terminal\",\"format\":\"q\"}",
-            END,
-        ],
-        "limit 4096 queue 64 formats 2 sources 1 stones 2 rounds 1 routes 2",
-    ),
-    (
-        "no settings",
-        &[
-            HEAD,
-            "{\"kind\":\"transform\",\"format\":\"q\",\"into\":\"q\",\"set\":[],\"target\":1},{\"kind\":\"terminal\",\"format\":\"q\"}",
-            END,
-        ],
-        "limit 4096 queue 64 formats 2 sources 1 stones 2 rounds 1 routes 2",
-    ),
-    (
-        "an unknown second format",
-        &[
-            HEAD,
-            "{\"kind\":\"transform\",\"format\":\"q\",\"into\":\"z\",\"set\":[],\"target\":1},{\"kind\":\"terminal\",\"format\":\"q\"}",
-            END,
-        ],
-        "unknown format at stones[0].into",
-    ),
-    (
-        "a setting of one value",
-        &[
-            HEAD,
-            "{\"kind\":\"transform\",\"format\":\"q\",\"into\":\"l\",\"set\":[[\"y\"]],\"target\":1},{\"kind\":\"terminal\",\"format\":\"q\"}",
-            END,
-        ],
-        "member stones[0].set[0]",
-    ),
-    (
-        "a setting of three",
-        &[
-            HEAD,
-            "{\"kind\":\"transform\",\"format\":\"q\",\"into\":\"l\",\"set\":[[\"y\",\"x\",\"x\"]],\"target\":1},{\"kind\":\"terminal\",\"format\":\"q\"}",
-            END,
-        ],
-        "member stones[0].set[0]",
-    ),
-    (
-        "a setting's field that is no text",
-        &[
-            HEAD,
-            "{\"kind\":\"transform\",\"format\":\"q\",\"into\":\"l\",\"set\":[[1,\"x\"]],\"target\":1},{\"kind\":\"terminal\",\"format\":\"q\"}",
-            END,
-        ],
-        "member stones[0].set[0][0]",
-    ),
-    (
-        "a setting's expression that is no text",
-        &[
-            HEAD,
-            "{\"kind\":\"transform\",\"format\":\"q\",\"into\":\"l\",\"set\":[[\"y\",\"x\"],[\"y\",1]],\"target\":1},{\"kind\":\"terminal\",\"format\":\"q\"}",
-            END,
-        ],
-        "member stones[0].set[1][1]",
-    ),
-    (
-        "a setting of no field",
-        &[
-            HEAD,
-            "{\"kind\":\"transform\",\"format\":\"q\",\"into\":\"l\",\"set\":[[\"z\",\"x\"]],\"target\":1},{\"kind\":\"terminal\",\"format\":\"q\"}",
-            END,
-        ],
-        "set 0 of stone 0",
-    ),
-    (
-        "a setting of a count",
-        &[
-            HEAD,
-            "{\"kind\":\"transform\",\"format\":\"q\",\"into\":\"l\",\"set\":[[\"y\",\"x\"],[\"n\",\"x\"]],\"target\":1},{\"kind\":\"terminal\",\"format\":\"q\"}",
-            END,
-        ],
-        "set 1 of stone 0",
-    ),
-    (
-        "a setting of a list",
-        &[
-            HEAD,
-            "{\"kind\":\"transform\",\"format\":\"q\",\"into\":\"l\",\"set\":[[\"a\",\"x\"]],\"target\":1},{\"kind\":\"terminal\",\"format\":\"q\"}",
-            END,
-        ],
-        "set 0 of stone 0",
-    ),
-    (
-        "a setting of a string",
-        &[
-            HEAD,
-            "{\"kind\":\"transform\",\"format\":\"q\",\"into\":\"l\",\"set\":[[\"s\",\"x\"]],\"target\":1},{\"kind\":\"terminal\",\"format\":\"q\"}",
-            END,
-        ],
-        "set 0 of stone 0",
-    ),
-    (
-        "a setting's expression cut",
-        &[
-            HEAD,
-            "{\"kind\":\"transform\",\"format\":\"q\",\"into\":\"l\",\"set\":[[\"y\",\"x\"],[\"y\",\"x+\"]],\"target\":1},{\"kind\":\"terminal\",\"format\":\"q\"}",
-            END,
-        ],
-        "expression 1 of stone 0: unexpected at 2",
-    ),
-    (
-        "a setting over the second format",
-        &[
-            HEAD,
-            "{\"kind\":\"transform\",\"format\":\"q\",\"into\":\"l\",\"set\":[[\"y\",\"x\"],[\"y\",\"n\"]],\"target\":1},{\"kind\":\"terminal\",\"format\":\"q\"}",
-            END,
-        ],
-        "binding 1 of stone 0: unknown at 0",
     ),
     (
         "names with escapes",
@@ -330,105 +214,10 @@ const ROWS: [(&str, &[&str], &str); 52] = [
         ],
         "limit 4096 queue 64 formats 2 sources 1 stones 1 rounds 1 routes 1",
     ),
-    (
-        "no rounds",
-        &[
-            HEAD,
-            "{\"kind\":\"terminal\",\"format\":\"q\"}",
-            "],\"rounds\":[]}",
-        ],
-        "limit at rounds: 0",
-    ),
-    (
-        "rounds that are missing",
-        &[HEAD, "{\"kind\":\"terminal\",\"format\":\"q\"}", "]}"],
-        "member rounds",
-    ),
-    (
-        "fewer numbers than sources",
-        &[
-            HEAD,
-            "{\"kind\":\"terminal\",\"format\":\"q\"}",
-            "],\"rounds\":[{\"submit\":[],\"frozen\":[]}]}",
-        ],
-        "member rounds[0].submit",
-    ),
-    (
-        "more records than a source has",
-        &[
-            HEAD,
-            "{\"kind\":\"terminal\",\"format\":\"q\"}",
-            "],\"rounds\":[{\"submit\":[131073],\"frozen\":[]}]}",
-        ],
-        "limit at rounds[0].submit[0]: 131073",
-    ),
-    (
-        "a negative zero",
-        &[
-            HEAD,
-            "{\"kind\":\"terminal\",\"format\":\"q\"}",
-            "],\"rounds\":[{\"submit\":[-0],\"frozen\":[]}]}",
-        ],
-        "member rounds[0].submit[0]",
-    ),
-    (
-        "an exponent",
-        &[
-            HEAD,
-            "{\"kind\":\"terminal\",\"format\":\"q\"}",
-            "],\"rounds\":[{\"submit\":[1e2],\"frozen\":[]}]}",
-        ],
-        "member rounds[0].submit[0]",
-    ),
-    (
-        "frozen stones twice",
-        &[
-            HEAD,
-            "{\"kind\":\"terminal\",\"format\":\"q\"}",
-            "],\"rounds\":[{\"submit\":[131072],\"frozen\":[0,0]}]}",
-        ],
-        "limit 4096 queue 64 formats 2 sources 1 stones 1 rounds 1 routes 1",
-    ),
-    (
-        "a frozen number that is no stone",
-        &[
-            HEAD,
-            "{\"kind\":\"terminal\",\"format\":\"q\"}",
-            "],\"rounds\":[{\"submit\":[1],\"frozen\":[0,1]}]}",
-        ],
-        "member rounds[0].frozen[1]",
-    ),
-    (
-        "a frozen number of 64 bits",
-        &[
-            HEAD,
-            "{\"kind\":\"terminal\",\"format\":\"q\"}",
-            "],\"rounds\":[{\"submit\":[1],\"frozen\":[18446744073709551615]}]}",
-        ],
-        "member rounds[0].frozen[0]",
-    ),
-    (
-        "a further member of a round",
-        &[
-            HEAD,
-            "{\"kind\":\"terminal\",\"format\":\"q\"}",
-            "],\"rounds\":[{\"submit\":[1],\"frozen\":[],\"x\":0}]}",
-        ],
-        "member rounds[0]",
-    ),
-    (
-        "a further member",
-        &[
-            HEAD,
-            "{\"kind\":\"terminal\",\"format\":\"q\"}",
-            "],\"rounds\":[{\"submit\":[1],\"frozen\":[]}],\"extra\":1}",
-        ],
-        "member .",
-    ),
 ];
 
 #[test]
-fn stones_and_rounds(rt: HostRuntime) -> Result<(), Fail> {
+fn stones(rt: HostRuntime) -> Result<(), Fail> {
     let alloc = rt.alloc();
     for (name, pieces, expected) in ROWS {
         let bytes = joined(alloc, pieces)?;

@@ -1,6 +1,6 @@
 //! What stands behind a route's name: the counts of a round, and a line for each record that was
 //! refused or received.
-ghost use Rattle.std.specs.Prelude.{All, length};
+ghost use Rattle.std.specs.Prelude.{[], All, length};
 ghost use Rattle.std.specs.List.{flat_map};
 ghost use Rattle.std.specs.Option.{unwrap_or};
 ghost use Rattle.evp_format.specs.Datum.{null};
@@ -20,6 +20,9 @@ use evp_record::Owned;
 use evp_stone::RoundAccount;
 use std::alloc::Global;
 use std::sync::Arc;
+
+// How many records are read before the first of their lines is written.
+const AHEAD: usize = 16;
 
 /// The counts of a round, then each record that was refused and why, then each that was received.
 pub(crate) fn put_account<K: Sink>(
@@ -96,10 +99,41 @@ fn put_arrived<K: Sink>(
     ensures { Passes K.faults K.put sink.old sink.new pieces.old pieces.new
         (flat_map (λ item. arrived_line (received formats.now item)) arrived.now) result }
 {
+    let mut place: usize = 0;
     for (index, owned) in arrived {
+        look_ahead(pieces, sink, arrived, place)?;
+        place = place.saturating_add(1);
         put_arrival(pieces, sink, formats, *index, owned)?;
     }
     Ok(())
+}
+
+// Makes room for the lines of the next records, where this place is the first of so many.
+#[inline(always)]
+fn look_ahead<K: Sink>(
+    pieces: &mut Pieces,
+    sink: &mut K,
+    arrived: &[(u32, Arc<Owned, Global>)],
+    place: usize,
+) -> Result<(), PutFault>
+    ensures { Passes K.faults K.put sink.old sink.new pieces.old pieces.new [] result }
+{
+    if place % AHEAD != 0 {
+        return Ok(());
+    }
+    pieces.make_room(sink, room_for(arrived, place))
+}
+
+// About how many bytes the lines of the next records take, from this place on. Reads that only add
+// up lengths don't wait for one another, as those that write lines do, and these find their records
+// at hand then.
+fn room_for(arrived: &[(u32, Arc<Owned, Global>)], from: usize) -> usize {
+    let (_, next) = arrived.split_at(from.min(arrived.len()));
+    let mut room: usize = 0;
+    for (_, owned) in next.iter().take(AHEAD) {
+        room = room.saturating_add(owned.bytes().len());
+    }
+    room
 }
 
 // A record's index, and its value.

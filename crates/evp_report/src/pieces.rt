@@ -1,5 +1,5 @@
 //! Text that waits until there is enough of it to be written.
-ghost use Rattle.std.specs.Prelude.{◌≡◌, [], OnOk};
+ghost use Rattle.std.specs.Prelude.{◌≡◌, ◌+◌, ◌≤◌, ◌⊎◌, [], OnOk, length};
 ghost use Rattle.evp_report.specs.Passing.{Passes};
 
 use arrayvec::ArrayVec;
@@ -46,6 +46,19 @@ impl Pieces {
             return write_all(sink, bytes);
         }
         Ok(())
+    }
+
+    /// Sees to it that so many bytes more may wait, or that none waits where these are more than may
+    /// wait at most: what waits goes out if need be. `Failed` comes where a write failed; a part of
+    /// it may have been put then. It takes no memory.
+    pub fn make_room<K: Sink>(&mut self, sink: &mut K, bytes: usize) -> Result<(), PutFault>
+        ensures passes { Passes K.faults K.put sink.old sink.new self.old self.new [] result }
+        ensures room { OnOk result ((length self.new + bytes ≤ 4096) ⊎ (self.new ≡ [])) }
+    {
+        if self.waiting.len().saturating_add(bytes) <= ROOM {
+            return Ok(());
+        }
+        self.flush(sink)
     }
 
     /// Writes what waits. `Failed` comes where a write failed; a part of it may have been put then.

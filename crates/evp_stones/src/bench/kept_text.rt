@@ -89,14 +89,15 @@ pub(super) fn ended_text(
     }
 }
 
-// About as many bytes as the lines of this account take. It reads each record that arrived once, and
-// so these reads don't wait for one another, as those of the lines do.
+// About as many bytes as the lines of this account take, where all records are about as long as the
+// first.
 fn room_for(account: &RoundAccount) -> usize {
     let refused = account.refused.len().saturating_mul(LINE);
-    let mut room = refused.saturating_add(FIRST_LINE);
-    for (_, owned) in account.arrived.as_slice() {
-        let line = owned.bytes().len().saturating_add(LINE);
-        room = room.saturating_add(line);
-    }
-    room
+    let arrived = account.arrived.as_slice();
+    let each = match arrived.first() {
+        Some((_, owned)) => owned.bytes().len().saturating_add(LINE),
+        None => 0,
+    };
+    let lines = arrived.len().saturating_mul(each);
+    FIRST_LINE.saturating_add(refused).saturating_add(lines)
 }

@@ -24,7 +24,7 @@ use evp_base::Memory;
 use evp_cache::{CachePass, Found, PlanCache};
 use evp_format::{Format, path_of};
 use evp_plan::{Builds, Plan};
-use evp_record::{Checked, Owned, PackedBytes};
+use evp_record::{Checked, Draft, Owned, PackedBytes};
 use evp_runner::{RunFault, pass, run, run_quickly};
 use std::alloc::{AllocError, Global};
 use std::borrow::CowSlice;
@@ -93,8 +93,9 @@ impl<'a> Converter<'a> {
     {
         let plan = plan_in(found)?;
         if !plan.alike() {
-            let bytes = self.packed_by(alloc, found, item, to)?;
-            return Ok(Made::New(Owned::packed(to, bytes)));
+            let same = Made::Same(item);
+            let bytes = self.packed_by(alloc, found, &same, to)?;
+            return Ok(Made::New(Draft::new(to, bytes)));
         }
         match pass(alloc, plan, item.checked(self.formats), self.limit) {
             Ok(bytes) => Ok(handed_on(alloc, item, bytes, to)?),
@@ -111,19 +112,19 @@ impl<'a> Converter<'a> {
         alloc: Global,
         known: &mut CachePass,
         builds: &mut Builds,
-        item: &Owned,
+        item: &Made<'_>,
         to: u16,
     ) -> Result<PackedBytes, Refusal>
-        requires ask { CanAsk self.now.cache.now self.now.formats.now known.old item.now.format to }
-        requires has { HasValueIn self.now.formats.now item.now }
+        requires ask { CanAsk self.now.cache.now self.now.formats.now known.old (record_in item.now).format to }
+        requires has { HasValueIn self.now.formats.now (record_in item.now) }
         ensures made { IfOk result (λ bytes. (value : Datum)
-            → HasValue self.now.formats.now item.now value
-            → IsPackedInto self.now.formats.now item.now.format to self.now.limit value bytes) }
+            → HasValue self.now.formats.now (record_in item.now) value
+            → IsPackedInto self.now.formats.now (record_in item.now).format to self.now.limit value bytes) }
         ensures cause { IfErr result (λ cause. (value : Datum)
-            → HasValue self.now.formats.now item.now value
-            → IsCause self.now.formats.now item.now.format to self.now.limit value cause) }
+            → HasValue self.now.formats.now (record_in item.now) value
+            → IsCause self.now.formats.now (record_in item.now).format to self.now.limit value cause) }
         ensures kept { Keeps self.now.cache.now self.now.formats.now known.old known.new }
-        ensures asked { AsksOnly item.now.format to known.old known.new }
+        ensures asked { AsksOnly (record_in item.now).format to known.old known.new }
         ensures builds { BuildsFor (spare result) known.old known.new builds.old builds.new }
     {
         let from = item.format();
@@ -137,17 +138,17 @@ impl<'a> Converter<'a> {
         &self,
         alloc: Global,
         found: &Found,
-        item: &Owned,
+        item: &Made<'_>,
         to: u16,
     ) -> Result<PackedBytes, Refusal>
-        requires found { IsFoundFor self.now.formats.now item.now.format to found.now }
-        requires has { HasValueIn self.now.formats.now item.now }
+        requires found { IsFoundFor self.now.formats.now (record_in item.now).format to found.now }
+        requires has { HasValueIn self.now.formats.now (record_in item.now) }
         ensures made { IfOk result (λ bytes. (value : Datum)
-            → HasValue self.now.formats.now item.now value
-            → IsPackedInto self.now.formats.now item.now.format to self.now.limit value bytes) }
+            → HasValue self.now.formats.now (record_in item.now) value
+            → IsPackedInto self.now.formats.now (record_in item.now).format to self.now.limit value bytes) }
         ensures cause { IfErr result (λ cause. (value : Datum)
-            → HasValue self.now.formats.now item.now value
-            → IsCause self.now.formats.now item.now.format to self.now.limit value cause) }
+            → HasValue self.now.formats.now (record_in item.now) value
+            → IsCause self.now.formats.now (record_in item.now).format to self.now.limit value cause) }
     {
         let plan = plan_in(found)?;
         let checked = item.checked(self.formats);
@@ -165,17 +166,17 @@ impl<'a> Converter<'a> {
         &self,
         alloc: Global,
         found: &Found,
-        item: &Owned,
+        item: &Made<'_>,
         to: u16,
     ) -> Result<PackedBytes, Refusal>
-        requires found { IsFoundFor self.now.formats.now item.now.format to found.now }
-        requires has { HasValueIn self.now.formats.now item.now }
+        requires found { IsFoundFor self.now.formats.now (record_in item.now).format to found.now }
+        requires has { HasValueIn self.now.formats.now (record_in item.now) }
         ensures made { IfOk result (λ bytes. (value : Datum)
-            → HasValue self.now.formats.now item.now value
-            → IsPackedInto self.now.formats.now item.now.format to self.now.limit value bytes) }
+            → HasValue self.now.formats.now (record_in item.now) value
+            → IsPackedInto self.now.formats.now (record_in item.now).format to self.now.limit value bytes) }
         ensures cause { IfErr result (λ cause. (value : Datum)
-            → HasValue self.now.formats.now item.now value
-            → IsCause self.now.formats.now item.now.format to self.now.limit value cause) }
+            → HasValue self.now.formats.now (record_in item.now) value
+            → IsCause self.now.formats.now (record_in item.now).format to self.now.limit value cause) }
     {
         let plan = plan_in(found)?;
         let checked = item.checked(self.formats);
@@ -264,7 +265,7 @@ fn handed_on<'b>(
         }
         CowSlice::Owned(bytes) => PackedBytes::of(bytes),
     };
-    Ok(Made::New(Owned::packed(to, bytes)))
+    Ok(Made::New(Draft::new(to, bytes)))
 }
 
 // The format of this number.

@@ -108,7 +108,7 @@ fn filtered(
         → IsAnswer formats.now (then_number None (value_over test.now.tree value)
         (filtered (record_in made.entry).format value)) result }
 {
-    let number = match eval(test, made.owned().checked(formats)) {
+    let number = match eval(test, made.checked(formats)) {
         Ok(number) => number,
         Err(fault) => return Ok(Acted::Refused(reason_of(None, fault))),
     };
@@ -133,7 +133,7 @@ fn routed(
         → IsAnswer formats.now (then_number None (value_over choose.now.tree value)
         (routed targets (record_in made.entry).format value)) result }
 {
-    let number = match eval(choose, made.owned().checked(formats)) {
+    let number = match eval(choose, made.checked(formats)) {
         Ok(number) => number,
         Err(fault) => return Ok(Acted::Refused(reason_of(None, fault))),
     };

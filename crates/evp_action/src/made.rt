@@ -1,10 +1,13 @@
 //! A record in the format that an action names, before it is shared.
-ghost use Rattle.std.specs.Prelude.{◌≡◌, IfOk};
+ghost use Rattle.std.specs.Prelude.{◌≡◌, IfOk, Some, slice_get};
 ghost use Rattle.std.specs.Arc.{arc_value};
 ghost use Rattle.evp_action.specs.MadeRecord.{record_in};
+ghost use Rattle.evp_record.specs.Owned.{HasValueIn, value_in};
+ghost use Rattle.evp_record.specs.Record.{value_of};
 
 use evp_base::Memory;
-use evp_record::Owned;
+use evp_format::Format;
+use evp_record::{Checked, Draft, Owned};
 use std::alloc::{AllocError, AllocFailed, Global};
 use std::sync::Arc;
 
@@ -12,18 +15,32 @@ use std::sync::Arc;
 #[derive(Drop)]
 pub(crate) enum Made<'a> {
     Same(&'a Arc<Owned, Global>),
-    New(Owned),
+    New(Draft),
 }
 
 impl<'a> Made<'a> {
-    // The record. Takes no memory.
+    // The number of the record's format.
     #[inline(always)]
-    pub fn owned(&self) -> &Owned
-        ensures { result.now ≡ record_in self.now }
+    pub fn format(&self) -> u16
+        ensures { result ≡ (record_in self.now).format }
     {
         match self {
-            Made::Same(item) => item,
-            Made::New(owned) => owned,
+            Made::Same(item) => item.format(),
+            Made::New(draft) => draft.format(),
+        }
+    }
+
+    // The record, for bytes that have a value in their format of these. Takes no memory.
+    #[inline(always)]
+    pub fn checked<'b>(&'b self, formats: &'b [Format]) -> Checked<'b>
+        requires { HasValueIn formats.now (record_in self.now) }
+        ensures format { slice_get formats.now (record_in self.now).format ≡ Some result.layout }
+        ensures bytes { result.bytes ≡ (record_in self.now).bytes }
+        ensures value { value_in formats.now (record_in self.now) ≡ Some (value_of result) }
+    {
+        match self {
+            Made::Same(item) => item.checked(formats),
+            Made::New(draft) => draft.checked(formats),
         }
     }
 
@@ -34,7 +51,7 @@ impl<'a> Made<'a> {
     {
         match self {
             Made::Same(item) => Ok(Arc::try_clone(item)?),
-            Made::New(owned) => Ok(Arc::new(alloc, owned)?),
+            Made::New(draft) => Ok(Arc::new(alloc, draft.owned(alloc)?)?),
         }
     }
 }

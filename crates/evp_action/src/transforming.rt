@@ -5,6 +5,7 @@ ghost use Rattle.evp_action.specs.Acting.{transforms, transformed};
 ghost use Rattle.evp_action.specs.Agreement.{AreSettings};
 ghost use Rattle.evp_action.specs.Asking.{transform_pairs};
 ghost use Rattle.evp_action.specs.Converted.{IsPackedIn};
+ghost use Rattle.evp_action.specs.MadeRecord.{record_in};
 ghost use Rattle.evp_action.specs.Performed.{HasValue};
 ghost use Rattle.evp_action.specs.Working.{IsAnswer, Works};
 ghost use Rattle.evp_cache.specs.Known.{IsCacheOf, IsPassOf};
@@ -12,13 +13,14 @@ ghost use Rattle.evp_format.specs.Datum.{Datum, Entries, rec};
 ghost use Rattle.evp_record.specs.Owned.{HasValueIn};
 
 use crate::converting::{Converter, format_of};
+use crate::made::Made;
 use crate::refusal::Refusal;
 use crate::setting::set_fields;
 use crate::{Acted, Setting, To};
 use evp_cache::CachePass;
 use evp_format::Format;
 use evp_plan::Builds;
-use evp_record::{Owned, PackedBytes};
+use evp_record::{Draft, Owned, PackedBytes};
 use std::alloc::Global;
 use std::sync::Arc;
 
@@ -46,25 +48,24 @@ pub(crate) fn transform(
         (arc_value item.now).format) pass.old pass.new builds.old builds.new result }
 {
     let made = converter.convert(alloc, pass, builds, item, format)?;
-    let first = made.owned();
-    let bytes = converter.packed(alloc, pass, builds, first, into)?;
-    with_fields_set(alloc, converter.formats, first, into, set, bytes)
+    let bytes = converter.packed(alloc, pass, builds, &made, into)?;
+    with_fields_set(alloc, converter.formats, &made, into, set, bytes)
 }
 
 // Sets the fields of a packed record of the format of this number, and sends it on.
 fn with_fields_set(
     alloc: Global,
     formats: &[Format],
-    item: &Owned,
+    item: &Made<'_>,
     into: u16,
     set: &[Setting],
     mut bytes: PackedBytes,
 ) -> Result<Acted, Refusal>
-    requires settings { (declared : ℕ) × AreSettings formats.now declared item.now.format into
+    requires settings { (declared : ℕ) × AreSettings formats.now declared (record_in item.now).format into
         set.now }
-    requires item { HasValueIn formats.now item.now }
+    requires item { HasValueIn formats.now (record_in item.now) }
     requires packed { (fields : Entries) × IsPackedIn formats.now into fields bytes }
-    ensures { (value : Datum) (fields : Entries) → HasValue formats.now item.now value
+    ensures { (value : Datum) (fields : Entries) → HasValue formats.now (record_in item.now) value
         → IsPackedIn formats.now into fields bytes
         → IsAnswer formats.now (transformed (slice_get formats.now into) into set.now value
         (rec fields)) result }
@@ -72,5 +73,6 @@ fn with_fields_set(
     let receiver = format_of(formats, into);
     let seen = item.checked(formats);
     set_fields(alloc, &seen, receiver, set, &mut bytes)?;
-    Ok(Acted::Sent(To::All, Arc::new(alloc, Owned::packed(into, bytes))?))
+    let owned = Draft::new(into, bytes).owned(alloc)?;
+    Ok(Acted::Sent(To::All, Arc::new(alloc, owned)?))
 }

@@ -1,5 +1,6 @@
 -- What the index of a pass tells of its list.
-use Rattle.std.proofs.Common.{◌≡◌, ℕ, suc, true, false, Bool, List, [], ◌∷◌, ◌++◌, Option, Some, None, length, sym, refl, ◌∙◌, ap, arith, cond, map, subst, ◌-◌, ◌≢◌}
+use Rattle.std.proofs.Common.{◌≡◌, ℕ, suc, true, false, Bool, List, [], ◌∷◌, ◌++◌, Option, Some, None, length}
+use Rattle.std.proofs.Common.{sym, refl, ◌∙◌, ap, arith, cond, map, subst, ◌-◌, ◌≢◌}
 use Rattle.std.proofs.lemmas.Bool.Decides.{nat_tests}
 use Rattle.std.proofs.lemmas.List.{map-append, length-map}
 use Rattle.std.specs.Prelude.{slice_get, option_map}
@@ -32,7 +33,8 @@ absent (k ∷ ks) from to none = elim (is_pair from to k) as (λ t. cond t (Some
     → cond t (Some 0) (option_map suc (position_of ks from to)) ≡ None)
     [ true ↦ λ is. absurd cc | false ↦ λ is. ap (option_map suc) (absent ks from to is) ] none
 
-moved : (place : Option ℕ) (t : Bool) (n : ℕ) → option_map suc (either place (cond t (Some n) None)) ≡ either (option_map suc place) (cond t (Some (suc n)) None)
+moved : (place : Option ℕ) (t : Bool) (n : ℕ) → option_map suc (either place (cond t (Some n) None))
+    ≡ either (option_map suc place) (cond t (Some (suc n)) None)
 moved None true n = refl
 moved None false n = refl
 moved (Some k) t n = refl

@@ -8,6 +8,8 @@ mod fault;
 mod instruction;
 mod joining;
 mod machine;
+mod making;
+mod members;
 mod operands;
 mod reach;
 mod stack;

@@ -1,6 +1,10 @@
 //! What a path reaches while its expression is bound.
 
+ghost use Rattle.std.specs.Prelude.{◌≡◌};
+ghost use Rattle.evp_eval.specs.Binding.{inner, element_reach};
+
 use crate::instruction::Member;
+use evp_format::Base;
 
 /// Where the record stands whose field a path reaches.
 #[derive(Clone, Copy, Debug)]
@@ -31,4 +35,25 @@ pub struct Waiting {
     pub member: Member,
     /// The place of the path's first name.
     pub first: u32,
+}
+
+/// Where the record in a field stands. A record's bytes are fewer than 2^32.
+pub fn inner(stand: Stand, offset: u32) -> Stand
+    ensures { result ≡ inner stand offset }
+{
+    match stand {
+        Stand::Known(at) => Stand::Known(at.saturating_add(offset)),
+        Stand::Stacked => Stand::Stacked,
+    }
+}
+
+/// What an element of the list in a field is.
+pub fn element_reach(member: Member, base: Base) -> Reach
+    ensures { result ≡ element_reach member base }
+{
+    match base {
+        Base::Number(_) => Reach::Ready,
+        Base::Text => Reach::Text(member),
+        Base::Nested(type_number) => Reach::Record(type_number),
+    }
 }

@@ -2,6 +2,8 @@
 
 use evp_job::{JobText, ReadJob, read_job};
 use std::alloc::{AllocError, Global};
+use std::process::Abort;
+use std::test::Fail;
 
 // Two formats and a source, up to the stones.
 pub(crate) const HEAD: &str =
@@ -12,6 +14,19 @@ pub(crate) const HEAD: &str =
 
 // What follows the stones: a round.
 pub(crate) const END: &str = "],\"rounds\":[{\"submit\":[1],\"frozen\":[]}]}";
+
+// A document: what it shows, its pieces, and what is read of it.
+pub(crate) type Row = (&'static str, &'static [&'static str], &'static str);
+
+// Each document is read so.
+pub(crate) fn are_read(rt: &impl Abort, alloc: Global, rows: &[Row]) -> Result<(), Fail> {
+    for (name, pieces, expected) in rows {
+        let bytes = joined(alloc, pieces)?;
+        let text = answer(alloc, bytes.as_slice())?;
+        assert_eq!(rt; (*name, text.as_str()), (*name, *expected));
+    }
+    Ok(())
+}
 
 // The pieces, one behind another.
 pub(crate) fn joined(alloc: Global, pieces: &[&str]) -> Result<Vec<u8>, AllocError> {

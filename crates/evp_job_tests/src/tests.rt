@@ -1,6 +1,6 @@
 //! Documents up to their sources, and their first faults.
 
-use crate::documents::{answer, joined};
+use crate::documents::{Row, are_read};
 use std::test::Fail;
 
 // Up to the types of a format, and up to the fields of its first type.
@@ -16,7 +16,7 @@ const FORMAT: &str =
 const SOURCE: &str = "{\"name\":\"a\",\"file\":\"f\",\"stone\":0}";
 
 // Pieces that make a document together, and the answer.
-const ROWS: [(&str, &[&str], &str); 36] = [
+const ROWS: [Row; 36] = [
     ("no JSON text", &["{"], "not json"),
     ("a list", &["[]"], "member ."),
     (
@@ -180,11 +180,5 @@ const ROWS: [(&str, &[&str], &str); 36] = [
 
 #[test]
 fn heads_and_first_faults(rt: HostRuntime) -> Result<(), Fail> {
-    let alloc = rt.alloc();
-    for (name, pieces, expected) in ROWS {
-        let bytes = joined(alloc, pieces)?;
-        let text = answer(alloc, bytes.as_slice())?;
-        assert_eq!(rt; (name, text.as_str()), (name, expected));
-    }
-    Ok(())
+    are_read(&rt, rt.alloc(), &ROWS)
 }

@@ -1,10 +1,10 @@
 //! Documents with two faults, of which the first is answered.
 
-use crate::documents::{END, HEAD, answer, joined};
+use crate::documents::{END, HEAD, Row, are_read};
 use std::test::Fail;
 
 // Pieces that make a document together, and the answer.
-const ROWS: [(&str, &[&str], &str); 20] = [
+const ROWS: [Row; 20] = [
     (
         "a format's name before a missing expression",
         &[HEAD, "{\"kind\":\"filter\",\"format\":\"z\"}", END],
@@ -183,11 +183,5 @@ const ROWS: [(&str, &[&str], &str); 20] = [
 
 #[test]
 fn first_of_two(rt: HostRuntime) -> Result<(), Fail> {
-    let alloc = rt.alloc();
-    for (name, pieces, expected) in ROWS {
-        let bytes = joined(alloc, pieces)?;
-        let text = answer(alloc, bytes.as_slice())?;
-        assert_eq!(rt; (name, text.as_str()), (name, expected));
-    }
-    Ok(())
+    are_read(&rt, rt.alloc(), &ROWS)
 }

@@ -1,10 +1,10 @@
 //! Rounds and further members, and their faults.
 
-use crate::documents::{HEAD, answer, joined};
+use crate::documents::{HEAD, Row, are_read};
 use std::test::Fail;
 
 // Pieces that make a document together, and the answer.
-const ROWS: [(&str, &[&str], &str); 11] = [
+const ROWS: [Row; 11] = [
     (
         "no rounds",
         &[
@@ -104,11 +104,5 @@ const ROWS: [(&str, &[&str], &str); 11] = [
 
 #[test]
 fn rounds(rt: HostRuntime) -> Result<(), Fail> {
-    let alloc = rt.alloc();
-    for (name, pieces, expected) in ROWS {
-        let bytes = joined(alloc, pieces)?;
-        let text = answer(alloc, bytes.as_slice())?;
-        assert_eq!(rt; (name, text.as_str()), (name, expected));
-    }
-    Ok(())
+    are_read(&rt, rt.alloc(), &ROWS)
 }

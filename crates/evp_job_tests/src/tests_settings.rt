@@ -1,10 +1,10 @@
 //! Settings of transforms, and their faults.
 
-use crate::documents::{END, HEAD, answer, joined};
+use crate::documents::{END, HEAD, Row, are_read};
 use std::test::Fail;
 
 // Pieces that make a document together, and the answer.
-const ROWS: [(&str, &[&str], &str); 13] = [
+const ROWS: [Row; 13] = [
     (
         "a transform",
         &[
@@ -130,11 +130,5 @@ const ROWS: [(&str, &[&str], &str); 13] = [
 
 #[test]
 fn settings(rt: HostRuntime) -> Result<(), Fail> {
-    let alloc = rt.alloc();
-    for (name, pieces, expected) in ROWS {
-        let bytes = joined(alloc, pieces)?;
-        let text = answer(alloc, bytes.as_slice())?;
-        assert_eq!(rt; (name, text.as_str()), (name, expected));
-    }
-    Ok(())
+    are_read(&rt, rt.alloc(), &ROWS)
 }

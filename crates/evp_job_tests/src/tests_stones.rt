@@ -1,10 +1,10 @@
 //! Stones, and their faults.
 
-use crate::documents::{END, HEAD, answer, joined};
+use crate::documents::{END, HEAD, Row, are_read};
 use std::test::Fail;
 
 // Pieces that make a document together, and the answer.
-const ROWS: [(&str, &[&str], &str); 28] = [
+const ROWS: [Row; 28] = [
     (
         "a terminal",
         &[HEAD, "{\"kind\":\"terminal\",\"format\":\"q\"}", END],
@@ -218,11 +218,5 @@ const ROWS: [(&str, &[&str], &str); 28] = [
 
 #[test]
 fn stones(rt: HostRuntime) -> Result<(), Fail> {
-    let alloc = rt.alloc();
-    for (name, pieces, expected) in ROWS {
-        let bytes = joined(alloc, pieces)?;
-        let text = answer(alloc, bytes.as_slice())?;
-        assert_eq!(rt; (name, text.as_str()), (name, expected));
-    }
-    Ok(())
+    are_read(&rt, rt.alloc(), &ROWS)
 }

@@ -46,5 +46,6 @@ pub received_plainly : (held : Record) (to from : Layout) (bytes : List ℕ) (va
     → conversion from to value limit ≡ converted result size → IsReceivers to limit result size
 received_plainly held to from bytes value result limit size are bytes_is is from_is laid laid' value_is answered =
     let seen : view from bytes ≡ Ok value =
-    ap (λ (l : Layout). view l bytes) from_is ∙ ap (view held.layout) bytes_is ∙ ok_value (view held.layout held.bytes) is.viewed ∙ ap (λ (v : Datum). Ok v) (sym value_is) in
+    ap (λ (l : Layout). view l bytes) from_is ∙ ap (view held.layout) bytes_is ∙ ok_value (view held.layout held.bytes) is.viewed
+    ∙ ap (λ (v : Datum). Ok v) (sym value_is) in
     received from to value result limit size laid laid' (view-typed from bytes value laid are seen) answered

@@ -1,8 +1,10 @@
 //! Records whole: the check of a stranger's bytes, readers that never leave them, and packing.
 #![tactic(auto)]
 
+mod draft;
 mod easy;
 mod fields;
+mod kept_bytes;
 mod laws;
 mod marker;
 mod owned;
@@ -17,6 +19,7 @@ mod walk;
 mod whole;
 mod words;
 
+pub use draft::Draft;
 pub use evp_format::Broken;
 pub use laws::{number_is_its_bytes, packed_is_viewed, reached_is_of_type, viewed_is_of_format};
 pub use owned::Owned;

@@ -4,7 +4,8 @@ ghost use Rattle.std.specs.Prelude.{◌≡◌, ◌^◌, ◌<◌, Some, length, s
 ghost use Rattle.evp_record.specs.Owned.{owned_of, HasValueIn, value_in};
 ghost use Rattle.evp_record.specs.Record.{record_of, value_of};
 
-use crate::{Checked, PackedBytes};
+use crate::Checked;
+use crate::kept_bytes::KeptBytes;
 use evp_format::Format;
 use std::marker::Model;
 
@@ -12,7 +13,7 @@ use std::marker::Model;
 #[derive(Debug, Drop)]
 pub struct Owned {
     format: u16,
-    bytes: PackedBytes,
+    bytes: KeptBytes,
 }
 
 impl Model for Owned {
@@ -32,12 +33,12 @@ impl Owned {
         requires { length bytes.items < 2 ^ 32 }
         ensures { result ≡ owned_of format bytes.items }
     {
-        Owned::packed(format, PackedBytes::of(bytes))
+        Owned::kept(format, KeptBytes::of(bytes))
     }
 
-    /// The same of bytes that may lie in the record itself.
+    // The same of bytes that may lie in the record itself.
     #[inline(always)]
-    pub fn packed(format: u16, bytes: PackedBytes) -> Self
+    pub(crate) fn kept(format: u16, bytes: KeptBytes) -> Self
         requires { length bytes < 2 ^ 32 }
         ensures { result ≡ owned_of format bytes }
     {

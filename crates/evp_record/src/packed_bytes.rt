@@ -5,6 +5,7 @@ ghost use Rattle.evp_base.specs.Numbers.{digits, is_width, FitsBytes};
 ghost use Rattle.evp_format.specs.Bytes.{put_at};
 ghost use Rattle.evp_record.specs.HeldBytes.{held_bytes, IsHeld};
 
+use crate::kept_bytes::{IN_BLOCK, KeptBytes};
 use evp_base::{Memory, Order, put_number};
 use std::alloc::Global;
 use std::marker::Model;
@@ -20,7 +21,7 @@ enum Held {
 }
 
 /// The bytes of a record. Up to `IN_PLACE` of them may lie in the value itself, so that a short
-/// record that is shared is one block of memory.
+/// record that is only read takes no memory.
 #[derive(Debug, Drop)]
 pub struct PackedBytes {
     held: Held,
@@ -97,4 +98,27 @@ impl PackedBytes {
             Held::Long(bytes) => bytes.as_slice(),
         }
     }
+
+    // The same bytes, to be shared: in the block itself where they have room there.
+    #[inline(always)]
+    pub(crate) fn kept(self, alloc: Global) -> Result<KeptBytes, Memory>
+        ensures { IfOk result (λ kept. kept ≡ self) }
+    {
+        match self.held {
+            Held::Short(bytes, size) => kept_short(alloc, &bytes, usize::from(size)),
+            Held::Long(bytes) => Ok(KeptBytes::of(bytes)),
+        }
+    }
+}
+
+// The first so many of these bytes, to be shared.
+#[inline(always)]
+fn kept_short(alloc: Global, bytes: &[u8; IN_PLACE], size: usize) -> Result<KeptBytes, Memory>
+    requires { size ≤ IN_PLACE }
+    ensures { IfOk result (λ kept. kept ≡ take size bytes.now) }
+{
+    if size > IN_BLOCK {
+        return Ok(KeptBytes::of(Vec::from_slice(alloc, &bytes[..size])?));
+    }
+    Ok(KeptBytes::in_block(bytes, size))
 }

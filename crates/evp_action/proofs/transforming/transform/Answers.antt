@@ -1,19 +1,14 @@
-use Rattle.std.proofs.Common.{ℕ, [], ◌∷◌, cond, Err, sym, ap, ◌∙◌, subst, slice_get}
+use Rattle.std.proofs.Common.{ℕ, [], ◌∷◌, cond, Err, sym, subst, slice_get}
 use Rattle.std.proofs.lemmas.Result.{err_from_is_err_and}
 use Rattle.std.specs.Arc.{arc_value}
 use Rattle.evp_action.specs.declared.acted.Acted.{Acted}
-use Rattle.evp_action.specs.Acting.{transforms, transformed}
+use Rattle.evp_action.specs.Acting.{transforms}
 use Rattle.evp_action.specs.Agreement.{AreSettings}
-use Rattle.evp_action.specs.Asking.{converts, AsksOnly}
-use Rattle.evp_action.specs.Converted.{IsPackedIn, IsPackedInto, IsCause, spare}
+use Rattle.evp_action.specs.Asking.{converts}
+use Rattle.evp_action.specs.Converted.{spare}
 use Rattle.evp_action.specs.MadeRecord.{record_in}
-use Rattle.evp_action.specs.Performed.{HasValue}
-use Rattle.evp_action.specs.Working.{IsAnswer}
 use Rattle.evp_action.proofs.Works.{valued, can_ask, into_value, into_known, refused_at, by_one}
 use Rattle.evp_action.proofs.Transforms.{asks_two, keeps_both, second_refused, behind_both, builds_both, builds_done}
-use Rattle.evp_format.specs.Datum.{Datum, rec, Entries}
-use Rattle.evp_record.specs.Owned.{HasValueIn}
-use Rattle.evp_record.specs.OwnedBytes.{OwnedBytes}
 use Rattle.evp_action.proofs.transforming.transform.Goals as goal
 
 pub returns-in_err-made : goal.returns-in_err-made
@@ -41,8 +36,8 @@ packed-requires-clause-ask c =
     let made = record_in c.in_ok-made.made in
     let is = c.in_ok-made.ensures.made v.value v.has in
     let has = into_known formats made is.value_made (into_value formats _ c.args.format conv.limit v.value made is) in
-    can_ask conv.cache.now formats c.convert.new.known c.owned-first.result.now c.args.into c.requires.cache c.in_ok-made.ensures.kept.right
-    (subst (HasValueIn formats) (sym c.owned-first.ensures) has) c.requires.settings.second_there.below
+    can_ask conv.cache.now formats c.convert.new.known made c.args.into c.requires.cache c.in_ok-made.ensures.kept.right has
+    c.requires.settings.second_there.below
 
 pub packed-requires-clause-has : goal.packed-requires-clause-has
 packed-requires-clause-has c =
@@ -51,8 +46,7 @@ packed-requires-clause-has c =
     let v = valued formats (arc_value c.args.item.now) c.requires.item in
     let made = record_in c.in_ok-made.made in
     let is = c.in_ok-made.ensures.made v.value v.has in
-    subst (HasValueIn formats) (sym c.owned-first.ensures) (into_known formats made is.value_made
-    (into_value formats _ c.args.format conv.limit v.value made is))
+    into_known formats made is.value_made (into_value formats _ c.args.format conv.limit v.value made is)
 
 pub returns-in_err-bytes : goal.returns-in_err-bytes
 returns-in_err-bytes c =
@@ -63,19 +57,14 @@ returns-in_err-bytes c =
     let cause = c.in_err-bytes.field-0.0 in
     let known = c.packed.new.known in
     let p = err_from_is_err_and c.from_residual-in_err-bytes.result c.from_residual-in_err-bytes.ensures.1 in
-    let why = subst (λ (o : OwnedBytes). (m : Datum) → HasValue formats o m → IsCause formats o.format c.args.into conv.limit m cause)
-    c.owned-first.ensures
-    c.in_err-bytes.ensures.cause in
-    let asked = subst (λ (o : OwnedBytes). AsksOnly o.format c.args.into c.convert.new.known known) c.owned-first.ensures
-    c.in_err-bytes.ensures.asked in
     rw (p.1, p.2) (record {
       answers = λ value has. second_refused formats conv.limit c.args.format c.args.into owned.format c.args.set.now value made cause
-          (c.in_ok-made.ensures.made value has) why;
+          (c.in_ok-made.ensures.made value has) c.in_err-bytes.ensures.cause;
       keeps = keeps_both conv.cache.now formats c.args.pass.now c.convert.new.known known c.in_ok-made.ensures.kept
           c.in_err-bytes.ensures.kept;
       asks = λ value has. asks_two formats conv.limit c.args.format c.args.into owned.format value made c.args.pass.now
           c.convert.new.known known
-          (c.in_ok-made.ensures.made value has) c.in_ok-made.ensures.asked asked;
+          (c.in_ok-made.ensures.made value has) c.in_ok-made.ensures.asked c.in_err-bytes.ensures.asked;
       builds = builds_both c.args.pass.now c.convert.new.known known c.args.builds.now c.convert.new.builds c.packed.new.builds
           (spare {A = Acted} (Err cause))
           c.in_ok-made.ensures.builds c.in_err-bytes.ensures.builds;
@@ -89,7 +78,7 @@ with_fields_set-requires-clause-settings c =
     let is = c.in_ok-made.ensures.made v.value v.has in (
       conv.cache.now.declared,
       subst (λ (n : ℕ). AreSettings formats conv.cache.now.declared n c.args.into c.args.set.now)
-          (sym (ap (λ (o : OwnedBytes). o.format) c.owned-first.ensures ∙ is.numbered)) c.requires.settings,
+          (sym is.numbered) c.requires.settings,
     )
 
 pub with_fields_set-requires-clause-item : goal.with_fields_set-requires-clause-item
@@ -99,8 +88,7 @@ with_fields_set-requires-clause-item c =
     let v = valued formats (arc_value c.args.item.now) c.requires.item in
     let made = record_in c.in_ok-made.made in
     let is = c.in_ok-made.ensures.made v.value v.has in
-    subst (HasValueIn formats) (sym c.owned-first.ensures) (into_known formats made is.value_made
-    (into_value formats _ c.args.format conv.limit v.value made is))
+    into_known formats made is.value_made (into_value formats _ c.args.format conv.limit v.value made is)
 
 pub with_fields_set-requires-clause-packed : goal.with_fields_set-requires-clause-packed
 with_fields_set-requires-clause-packed c =
@@ -110,8 +98,7 @@ with_fields_set-requires-clause-packed c =
     let made = record_in c.in_ok-made.made in
     let is = c.in_ok-made.ensures.made v.value v.has in
     let has = into_value formats _ c.args.format conv.limit v.value made is in
-    let second = c.in_ok-bytes.ensures.made is.value_made (subst (λ (o : OwnedBytes). HasValue formats o is.value_made)
-    (sym c.owned-first.ensures) has) in
+    let second = c.in_ok-bytes.ensures.made is.value_made has in
     (second.fields, second.packed)
 
 pub returns : goal.returns
@@ -123,23 +110,14 @@ returns c =
     let known = c.packed.new.known in
     let bytes = c.in_ok-bytes.bytes in
     let answer = c.with_fields_set.result in
-    let packs = subst (λ (o : OwnedBytes). (m : Datum) → HasValue formats o m
-    → IsPackedInto formats o.format c.args.into conv.limit m bytes) c.owned-first.ensures
-    c.in_ok-bytes.ensures.made in
-    let does = subst (λ (o : OwnedBytes). (m : Datum) (fields : Entries) → HasValue formats o m
-    → IsPackedIn formats c.args.into fields bytes
-    → IsAnswer formats (transformed (slice_get formats c.args.into) c.args.into c.args.set.now m (rec fields)) answer) c.owned-first.ensures
-    c.with_fields_set.ensures in
-    let asked = subst (λ (o : OwnedBytes). AsksOnly o.format c.args.into c.convert.new.known known) c.owned-first.ensures
-    c.in_ok-bytes.ensures.asked in
     record {
       answers = λ value has. behind_both formats conv.limit c.args.format c.args.into owned.format c.args.set.now value made bytes answer
-          (c.in_ok-made.ensures.made value has) packs does;
+          (c.in_ok-made.ensures.made value has) c.in_ok-bytes.ensures.made c.with_fields_set.ensures;
       keeps = keeps_both conv.cache.now formats c.args.pass.now c.convert.new.known known c.in_ok-made.ensures.kept
           c.in_ok-bytes.ensures.kept;
       asks = λ value has. asks_two formats conv.limit c.args.format c.args.into owned.format value made c.args.pass.now
           c.convert.new.known known
-          (c.in_ok-made.ensures.made value has) c.in_ok-made.ensures.asked asked;
+          (c.in_ok-made.ensures.made value has) c.in_ok-made.ensures.asked c.in_ok-bytes.ensures.asked;
       builds = builds_done c.args.pass.now c.convert.new.known known c.args.builds.now c.convert.new.builds c.packed.new.builds
           (spare answer)
           c.in_ok-made.ensures.builds c.in_ok-bytes.ensures.builds;

@@ -2,6 +2,7 @@ use Rattle.std.proofs.Common.{◌∙◌, subst, refl}
 use Rattle.std.proofs.lemmas.Option.{slice_get_within}
 use Rattle.std.proofs.lemmas.Result.{err_from_is_err_and}
 use Rattle.std.specs.Arc.{arc_value}
+use Rattle.evp_action.specs.MadeRecord.{record_in}
 use Rattle.evp_action.specs.Settings.{AreSet, StopsBy}
 use Rattle.evp_action.proofs.Conversions.{lent_by, value_is}
 use Rattle.evp_action.proofs.PackedRecords.{packed_short}
@@ -16,7 +17,7 @@ pub set_fields-requires : goal.set_fields-requires
 set_fields-requires c =
     let is = c.requires.packed.1 in
     record {
-      settings = can_set c.args.formats.now c.requires.settings.0 c.args.item.now.format c.args.into c.checked-seen.result.layout
+      settings = can_set c.args.formats.now c.requires.settings.0 (record_in c.args.item.now).format c.args.into c.checked-seen.result.layout
           c.format_of-receiver.result.now
           c.args.set.now c.requires.settings.1 c.checked-seen.ensures.format c.format_of-receiver.ensures;
       few = c.requires.settings.1.few;
@@ -33,16 +34,16 @@ returns-in_err-set_fields c =
     let receiver = c.format_of-receiver.result.now in
     let cause = c.in_err-set_fields.field-0.0 in
     rw (p.1, p.2) (λ value fields has is.
-    let lent = lent_by c.args.formats.now c.args.item.now c.args.item.now c.checked-seen.result refl c.checked-seen.ensures.format
+    let lent = lent_by c.args.formats.now (record_in c.args.item.now) (record_in c.args.item.now) c.checked-seen.result refl c.checked-seen.ensures.format
     c.checked-seen.ensures.bytes in
     let packed = packed_at c.args.formats.now c.args.into receiver fields c.args.bytes c.format_of-receiver.ensures is in
     set_stopped c.args.formats.now c.args.into receiver c.args.set.now value fields cause c.format_of-receiver.ensures
     (subst (λ (v : Datum). StopsBy receiver 0 c.args.set.now v fields cause)
-    (value_is c.args.formats.now c.args.item.now c.checked-seen.result value lent has)
+    (value_is c.args.formats.now (record_in c.args.item.now) c.checked-seen.result value lent has)
     (c.in_err-set_fields.ensures.cause fields packed)))
 
-pub packed-requires : goal.packed-requires
-packed-requires c =
+pub new-requires : goal.new-requires
+new-requires c =
     let receiver = c.format_of-receiver.result.now in
     let fields = c.requires.packed.0 in
     let packed = packed_at c.args.formats.now c.args.into receiver fields c.args.bytes c.format_of-receiver.ensures c.requires.packed.1 in
@@ -54,13 +55,13 @@ pub returns : goal.returns
 returns c = λ value fields has is.
     let receiver = c.format_of-receiver.result.now in
     let new = c.set_fields.new.bytes in
-    let lent = lent_by c.args.formats.now c.args.item.now c.args.item.now c.checked-seen.result refl c.checked-seen.ensures.format
+    let lent = lent_by c.args.formats.now (record_in c.args.item.now) (record_in c.args.item.now) c.checked-seen.result refl c.checked-seen.ensures.format
     c.checked-seen.ensures.bytes in
     let packed = packed_at c.args.formats.now c.args.into receiver fields c.args.bytes c.format_of-receiver.ensures is in
     let are = subst (λ (v : Datum). AreSet receiver 0 c.args.set.now v fields new)
-    (value_is c.args.formats.now c.args.item.now c.checked-seen.result value lent has)
+    (value_is c.args.formats.now (record_in c.args.item.now) c.checked-seen.result value lent has)
     (c.in_ok-set_fields.ensures.set fields packed) in
-    set_sent c.args.formats.now c.args.into receiver c.args.set.now value fields new (arc_value c.in_ok-new.field-0)
+    set_sent c.args.formats.now c.args.into receiver c.args.set.now value fields new (arc_value c.in_ok-new-2.field-0)
     c.format_of-receiver.ensures
     (laid_in c.args.formats.now c.args.into receiver fields c.args.bytes c.format_of-receiver.ensures is) are
-    (c.in_ok-new.ensures.ok ∙ c.packed.ensures)
+    (c.in_ok-new-2.ensures.ok ∙ c.in_ok-owned.ensures ∙ c.new.ensures)

@@ -69,7 +69,8 @@ loop-source-preserved c =
     let start = c.into_iter-source-iterator.result in
     record {
       made = moved_more (sources_with_files (length formats) (map bare_source left))
-          (sources_with_files (length more) (map bare_source rest)) c.loop-source.filled.items c.push.new.self.items files others file c.in_ok-source_with_file.field-0
+          (sources_with_files (length more) (map bare_source rest)) c.loop-source.filled.items c.push.new.self.items files others file
+          c.in_ok-source_with_file.field-0
           (sources_with_files (length c.args.formats.now.items) (map bare_source (iter_rest (zip_first start)))
           (into_iter_items (zip_second start))) begins
           (one_filled formats more left rest source file others c.in_ok-source_with_file.field-0 first

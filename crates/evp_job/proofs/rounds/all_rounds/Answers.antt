@@ -37,5 +37,6 @@ returns-in_err-round c =
 pub returns : goal.returns
 returns c =
     let values = c.args.values.now in
-    all_end view (one_more (round_in c.args.sources c.args.stones)) values c.loop-k.k c.loop-k.rounds.items (each_in (round_in c.args.sources c.args.stones) (map view values))
+    all_end view (one_more (round_in c.args.sources c.args.stones)) values c.loop-k.k c.loop-k.rounds.items
+    (each_in (round_in c.args.sources c.args.stones) (map view values))
     c.loop-k-test.false c.loop-k.invariant

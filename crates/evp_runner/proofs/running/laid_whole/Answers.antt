@@ -24,7 +24,8 @@ laid_size-requires-clause-inside c =
     (sent_pointer plan c.args.item.now c.requires.to image c.requires.stands c.sender_of-sender.ensures said.between.from_eight))
 
 pub laid_size-requires-clause-few : goal.laid_size-requires-clause-few
-laid_size-requires-clause-few c = let few = c.in_ok-laid.ensures.between.few in let same = ap (length {A = Block}) c.blocks-2.ensures in omega (arith, few, same)
+laid_size-requires-clause-few c =
+    let few = c.in_ok-laid.ensures.between.few in let same = ap (length {A = Block}) c.blocks-2.ensures in omega (arith, few, same)
 
 pub returns : goal.returns
 returns c =

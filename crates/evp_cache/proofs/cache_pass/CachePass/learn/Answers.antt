@@ -11,7 +11,8 @@ use Rattle.evp_cache.proofs.cache_pass.CachePass.learn.Goals as goal
 
 pub invariant_of-self-2 : goal.invariant_of-self-2
 invariant_of-self-2 c =
-    let more : c.push_reserved.new.self.items ≡ c.self.inside.met.items ++ c.args.met ∷ [] = grind (arith, c.push_reserved.ensures.items, c.reserve.ensures.items) in (
+    let more : c.push_reserved.new.self.items ≡ c.self.inside.met.items ++ c.args.met ∷ [] =
+    grind (arith, c.push_reserved.ensures.items, c.reserve.ensures.items) in (
       subst (λ (ms : List Met). IsIndex c.set.new.self (map known_of ms)) (sym more)
           (met_more _ _ c.self.inside.met.items c.args.met _ (grind (arith, c.len-place.ensures)) c.self.invariant.0 c.in_ok-set.ensures.set
           (subst (λ (ks : List Known). found_for ks c.args.met.from c.args.met.to ≡ None) (sym c.self.view_is) c.requires.new)),

@@ -10,5 +10,6 @@ kept_in-requires-clause-cell c =
 
 pub returns-clause-shared : goal.returns-clause-shared
 returns-clause-shared c k there =
-    sym (ap (λ (e : Known). e.found) (entry_is c.self.inside.met.items c.args.self.now c.args.place _ k c.self.view_is c.requires.there c.index_mut-met.ensures.value there))
+    sym (ap (λ (e : Known). e.found) (entry_is c.self.inside.met.items c.args.self.now c.args.place _ k c.self.view_is
+    c.requires.there c.index_mut-met.ensures.value there))
     ∙ shared_found c.index_mut-met.result.now _ c.if-is_some.ensures c.kept_in.ensures.value ∙ sym c.found.ensures.value

@@ -4,6 +4,7 @@ ghost use Rattle.std.specs.Prelude.{◌≡◌, [], ◌∷◌, ◌++◌, OnOk, On
 
 use evp_base::Memory;
 use evp_format::{Format, FormatId};
+use evp_record::KeptBytes;
 use std::marker::Model;
 
 /// A format that is known beforehand, with its identifier.
@@ -69,49 +70,12 @@ impl FileFormats {
     }
 }
 
-/// The bytes of a record.
-#[derive(Debug, Drop)]
-pub struct RecordBytes {
-    bytes: Vec<u8>,
-}
-
-impl Model for RecordBytes {
-    ghost use Rattle.std.specs.Prelude.{ℕ, List};
-
-    ghost Value = { List ℕ };
-
-    ghost view = { λ b. b.bytes.items };
-}
-
-impl RecordBytes {
-    /// These bytes. Takes no memory.
-    pub fn from_vec(bytes: Vec<u8>) -> Self
-        ensures { result ≡ bytes.items }
-    {
-        RecordBytes { bytes }
-    }
-
-    /// The bytes as they were handed in. Takes no memory.
-    pub fn into_vec(self) -> Vec<u8>
-        ensures { result.items ≡ self }
-    {
-        self.bytes
-    }
-
-    /// The bytes.
-    pub fn as_slice(&self) -> &[u8]
-        ensures { result.now ≡ self.now }
-    {
-        self.bytes.as_slice()
-    }
-}
-
 /// A record of a file.
 #[derive(Debug, Drop)]
 pub struct FileItem {
     /// The number of its format among the file's.
     pub format: u16,
-    pub bytes: RecordBytes,
+    pub bytes: KeptBytes,
 }
 
 /// The records of a file, numbered from 0 in their order.

@@ -10,9 +10,9 @@ ghost use Rattle.evp_file.specs.Reading.{unbroken, record_frame, frame_at};
 ghost use Rattle.evp_file.specs.Steps.{Gives, Says};
 
 use crate::parts::{number_part, part};
-use crate::{FileFault, FileFormat, FileItem, KnownFormat, RecordBytes, RecordFile};
+use crate::{FileFault, FileFormat, FileItem, KnownFormat, RecordFile};
 use evp_format::{Format, LayoutFault, read_description};
-use evp_record::check;
+use evp_record::{KeptBytes, check};
 use std::alloc::Global;
 
 /// The most formats of a file.
@@ -98,7 +98,7 @@ impl<'a> Reader<'a> {
         check_record(alloc, at, format, record)?;
         let item = FileItem {
             format: number as u16,
-            bytes: RecordBytes::from_vec(Vec::from_slice(alloc, record)?),
+            bytes: KeptBytes::copied(alloc, record)?,
         };
         Ok((Frame::Record(item), 7 + size))
     }

@@ -10,9 +10,7 @@ mod reading;
 mod writing;
 
 pub use fault::FileFault;
-pub use file::{
-    FileFormat, FileFormats, FileItem, FileItems, KnownFormat, RecordBytes, RecordFile,
-};
+pub use file::{FileFormat, FileFormats, FileItem, FileItems, KnownFormat, RecordFile};
 pub use laws::{files_are_exact, files_read_back};
 pub use reading::read_file;
 pub use writing::{begin_file, end_file, put_record, write_file};

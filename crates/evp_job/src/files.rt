@@ -189,5 +189,5 @@ fn owned_with(numbers: &[u16], item: FileItem) -> Owned
     requires short { length item.bytes < 2 ^ 32 }
     ensures { result ≡ owned_with numbers.now item }
 {
-    Owned::new(numbers[usize::from(item.format)], item.bytes.into_vec())
+    Owned::kept(numbers[usize::from(item.format)], item.bytes)
 }

@@ -1,14 +1,15 @@
 -- The bytes of a record, by where they lie.
 use Rattle.std.specs.Prelude.{ℕ, ◌≤◌, List, take, ⊤}
-use Rattle.evp_record.specs.declared.packed_bytes.Held.{Held}
-use Rattle.evp_record.specs.declared.packed_bytes.Held.TheVariants.{Short, Long}
+use Rattle.evp_record.specs.declared.record_bytes.Held.{Held}
+use Rattle.evp_record.specs.declared.record_bytes.Held.TheVariants.{Short, Long}
 
--- so many in the value itself, or those of a vector
-abbrev pub held_bytes : Held → List ℕ
-held_bytes (Short bytes size) = take size bytes
-held_bytes (Long bytes) = bytes.items
+module _ {ROOM : ℕ} where
+  -- so many in the value itself, or those of a vector
+  abbrev pub held_bytes : Held ROOM → List ℕ
+  held_bytes (Short bytes size) = take size bytes
+  held_bytes (Long bytes) = bytes.items
 
--- no more than have room there are meant
-abbrev pub IsHeld : Held → Type 0
-IsHeld (Short bytes size) = size ≤ 72
-IsHeld (Long bytes) = ⊤
+  -- no more than have room there are meant
+  abbrev pub IsHeld : Held ROOM → Type 0
+  IsHeld (Short bytes size) = size ≤ ROOM
+  IsHeld (Long bytes) = ⊤

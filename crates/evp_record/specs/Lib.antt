@@ -1,6 +1,5 @@
 pub mod Class
 pub mod Laws
-pub mod KeptBytes
 pub mod LeadMarks
 pub mod Marks
 pub mod NumberPieces

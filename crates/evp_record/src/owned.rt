@@ -4,8 +4,7 @@ ghost use Rattle.std.specs.Prelude.{◌≡◌, ◌^◌, ◌<◌, Some, length, s
 ghost use Rattle.evp_record.specs.Owned.{owned_of, HasValueIn, value_in};
 ghost use Rattle.evp_record.specs.Record.{record_of, value_of};
 
-use crate::Checked;
-use crate::kept_bytes::KeptBytes;
+use crate::{Checked, KeptBytes};
 use evp_format::Format;
 use std::marker::Model;
 
@@ -36,9 +35,9 @@ impl Owned {
         Owned::kept(format, KeptBytes::of(bytes))
     }
 
-    // The same of bytes that may lie in the record itself.
+    /// The same of bytes that may lie in the record itself.
     #[inline(always)]
-    pub(crate) fn kept(format: u16, bytes: KeptBytes) -> Self
+    pub fn kept(format: u16, bytes: KeptBytes) -> Self
         requires { length bytes < 2 ^ 32 }
         ensures { result ≡ owned_of format bytes }
     {

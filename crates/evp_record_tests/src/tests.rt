@@ -6,7 +6,7 @@ ghost use Rattle.evp_record.specs.Samples.{list_description, list_bytes};
 
 use evp_base::Order;
 use evp_format::{BrokenText, Items, Members, Value, read_description};
-use evp_record::{Owned, PackedBytes, check, pack, view};
+use evp_record::{Draft, KeptBytes, Owned, PackedBytes, check, pack, view};
 use std::alloc::{AllocError, Global};
 use std::test::Fail;
 
@@ -297,13 +297,22 @@ fn owned_records(rt: HostRuntime) -> Result<(), Fail> {
     Ok(())
 }
 
-// Whether a copy of so many bytes is as long, and all of them are the same.
-fn copies(alloc: Global, size: usize) -> bool {
-    let Ok(bytes) = vec![in alloc; 7u8; size] else {
+// Whether copies of so many bytes, to be read and to be shared, are as long, and all of them the same.
+fn copies(alloc: Global, size: u8) -> bool {
+    let Ok(bytes) = vec![in alloc; 7u8; usize::from(size)] else {
         return false;
     };
-    match PackedBytes::copied(alloc, &bytes) {
-        Ok(copy) => copy.as_slice() == bytes.as_slice(),
+    let (Ok(packed), Ok(kept)) = (
+        PackedBytes::copied(alloc, &bytes),
+        KeptBytes::copied(alloc, &bytes),
+    ) else {
+        return false;
+    };
+    if packed.as_slice() != bytes.as_slice() || kept.as_slice() != bytes.as_slice() {
+        return false;
+    }
+    match Draft::new(3, packed).owned(alloc) {
+        Ok(owned) => owned.format() == 3 && owned.bytes() == bytes.as_slice(),
         Err(_) => false,
     }
 }
@@ -311,7 +320,7 @@ fn copies(alloc: Global, size: usize) -> bool {
 #[test]
 fn bytes_in_place_and_apart(rt: HostRuntime) -> Result<(), Fail> {
     let alloc = rt.alloc();
-    for size in [0, 1, 71, 72, 73, 200] {
+    for size in [0, 1, 37, 38, 39, 71, 72, 73, 200] {
         assert!(rt; copies(alloc, size));
     }
     let mut short = PackedBytes::copied(alloc, b"\x09\x09\x09\x09")?;

@@ -6,7 +6,7 @@ use Rattle.evp_base.proofs.Numbers.{length-digits}
 use Rattle.evp_format.specs.Bytes.{put_at}
 use Rattle.evp_record.specs.HeldBytes.{held_bytes, IsHeld}
 use Rattle.evp_record.proofs.HeldWritten.{front_put, vector_put}
-use Rattle.evp_record.proofs.packed_bytes.PackedBytes.put_number.Goals as goal
+use Rattle.evp_record.proofs.record_bytes.PackedBytes.put_number.Goals as goal
 
 pub returns-in-Short : goal.returns-in-Short
 returns-in-Short c =

@@ -99,6 +99,7 @@ impl<'a, R: Wait> Port for CrewPort<'a, R> {
         self.crew.queues[usize::from(taker.stone)].take(self.rt, &mut taker.pass)
     }
 
+    #[inline(always)]
     fn give(&mut self, target: u16, entry: Entry) -> Result<(), Given<Entry>> {
         let target = usize::from(target);
         give_by(
@@ -111,6 +112,7 @@ impl<'a, R: Wait> Port for CrewPort<'a, R> {
 }
 
 // Gives an entry by this giver.
+#[inline(always)]
 fn give_by<R: Wait>(
     rt: &R,
     queue: &StoneQueue<Entry>,

@@ -67,6 +67,7 @@ fn push_copies(
 }
 
 // An entry more waits.
+#[inline(always)]
 fn push(waiting: &mut VecDeque<Entry>, entry: Entry) -> Result<(), AllocError>
     ensures { OnOk result (waiting.new.items ≡ waiting.old.items ++ entry ∷ []) }
 {
@@ -76,6 +77,7 @@ fn push(waiting: &mut VecDeque<Entry>, entry: Entry) -> Result<(), AllocError>
 }
 
 // Lines up an entry at each outlet, copies at all but the last.
+#[inline(always)]
 fn push_all(
     outlets: &[Outlet],
     waiting: &mut VecDeque<Entry>,
@@ -93,6 +95,7 @@ fn push_all(
 }
 
 // Lines up an entry at the outlet of this position, if there is one.
+#[inline(always)]
 fn push_at(
     outlets: &[Outlet],
     waiting: &mut VecDeque<Entry>,
@@ -111,6 +114,7 @@ fn push_at(
 }
 
 /// Lines up an entry at each outlet where something goes. None waits where there is no memory.
+#[inline(always)]
 pub(crate) fn line_up(
     outlets: &[Outlet],
     waiting: &mut VecDeque<Entry>,
@@ -130,6 +134,7 @@ pub(crate) fn line_up(
 }
 
 // Lines up an entry at each outlet where something goes.
+#[inline(always)]
 fn push_to(
     outlets: &[Outlet],
     waiting: &mut VecDeque<Entry>,

@@ -61,7 +61,7 @@ returns c = λ value fields has is.
     let are = subst (λ (v : Datum). AreSet receiver 0 c.args.set.now v fields new)
     (value_is c.args.formats.now (record_in c.args.item.now) c.checked-seen.result value lent has)
     (c.in_ok-set_fields.ensures.set fields packed) in
-    set_sent c.args.formats.now c.args.into receiver c.args.set.now value fields new (arc_value c.in_ok-new-2.field-0)
+    set_sent c.args.formats.now c.args.into receiver c.args.set.now value fields new (arc_value c.in_ok-new.field-0)
     c.format_of-receiver.ensures
     (laid_in c.args.formats.now c.args.into receiver fields c.args.bytes c.format_of-receiver.ensures is) are
-    (c.in_ok-new-2.ensures.ok ∙ c.in_ok-owned.ensures ∙ c.new.ensures)
+    (c.in_ok-new.ensures.ok ∙ c.in_ok-owned.ensures ∙ c.new.ensures)

@@ -28,10 +28,8 @@ struct Part {
 }
 
 /// Hands on the text of a record's value, without blanks: numbers in decimal, null as `null`, texts
-/// in
-/// double quotes, lists in brackets and records in braces as `name=value`. `Failed` comes where a
-/// write
-/// failed. It takes no memory, and calls itself once for each level of the format's types.
+/// in double quotes, lists in brackets and records in braces as `name=value`. `Failed` comes where a
+/// write failed. It takes no memory, and calls itself once for each level of the format's types.
 pub fn put_value<K: Sink>(pieces: &mut Pieces, sink: &mut K, item: &Checked) -> Result<(), PutFault>
     ensures { Passes K.faults K.put sink.old sink.new pieces.old pieces.new
         (value_text (value_of item.now)) result }

@@ -2,8 +2,7 @@
 use evp_eval::Bound;
 
 /// What a stone does with each record that comes to it. Each action but `Split` converts it into
-/// its
-/// format first; formats go by their numbers.
+/// its format first; formats go by their numbers.
 #[derive(Drop)]
 pub enum Action {
     /// Sends the record on where the expression isn't 0, else drops it.
@@ -12,8 +11,7 @@ pub enum Action {
         test: Bound,
     },
     /// Sends the record to the target at the position that the expression gives, where there is
-    /// one,
-    /// else drops it.
+    /// one, else drops it.
     Router {
         format: u16,
         choose: Bound,
@@ -33,8 +31,7 @@ pub enum Action {
 }
 
 /// A single number field of a transform's second format, by its number in the record, and what it
-/// is
-/// set to: an expression over the record in the first format.
+/// is set to: an expression over the record in the first format.
 #[derive(Drop)]
 pub struct Setting {
     pub field: u16,

@@ -1,4 +1,5 @@
 mod Agreements
+mod FirstFaults
 mod Alone
 mod Bytes
 mod Compiling

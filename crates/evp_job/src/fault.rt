@@ -16,8 +16,7 @@ use std::fmt;
 
 /// The first fault of a job document, in the order in which it is read (`docs/FORMATS.md`, "Job
 /// documents"). Formats, sources, stones and settings go by their numbers, counted from 0. Paths
-/// lead
-/// from the document to the place.
+/// lead from the document to the place.
 #[derive(Debug, Drop)]
 pub enum JobFault {
     /// What stands there isn't of its form, or nothing does, or it has a member that it may not
@@ -53,8 +52,7 @@ pub enum JobFault {
 
 impl JobFault {
     /// The same fault, where its path begins with a further step in front; `Memory` where the
-    /// longer
-    /// path found none.
+    /// longer path found none.
     pub(crate) fn under(self, step: Step) -> JobFault
         ensures { (result ≡ behind step self) ⊎ (result ≡ fault.Memory) }
     {

@@ -10,6 +10,7 @@ pub mod ReadLists
 pub mod Reading
 pub mod Roots
 pub mod SampleRecord
+pub mod TextsRead
 pub mod Viewed
 pub mod Zeros
 pub mod Held

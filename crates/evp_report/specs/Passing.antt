@@ -11,10 +11,8 @@ pub record WentOut (old new : Option (List ℕ)) (waiting waiting' bytes : List 
   pub rest : out ++ waiting' ≡ waiting ++ bytes
 
 -- What a call does that hands on these bytes, while some wait. The sink's faults never fall, and
--- rose
--- where the call failed. Then a part of what waited and of these bytes was put; else all of them
--- were
--- put or wait, in order.
+-- rose where the call failed. Then a part of what waited and of these bytes was put; else all of
+-- them were put or wait, in order.
 pub record Passes {S T E : Type 0} (faults_of : S → ℕ) (told : S → Option (List ℕ)) (old new : S)
     (waiting waiting' bytes : List ℕ) (result : Result T E) : Type 0 where
   pub faults : faults_of old ≤ faults_of new

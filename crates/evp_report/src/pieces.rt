@@ -49,8 +49,8 @@ impl Pieces {
     }
 
     /// Sees to it that so many bytes more may wait, or that none waits where these are more than may
-    /// wait at most: what waits goes out if need be, and only then. `Failed` comes where a write failed; a part of
-    /// it may have been put then. It takes no memory.
+    /// wait at most: what waits goes out if need be, and only then. `Failed` comes where a write
+    /// failed; a part of it may have been put then. It takes no memory.
     pub fn make_room<K: Sink>(&mut self, sink: &mut K, bytes: usize) -> Result<(), PutFault>
         ensures passes { Passes K.faults K.put sink.old sink.new self.old self.new [] result }
         ensures room { OnOk result ((length self.new + bytes ≤ 4096) ⊎ (self.new ≡ [])) }

@@ -6,7 +6,7 @@ use Rattle.std.proofs.lemmas.Bool.{eqb-true}
 use Rattle.evp_plan.specs.Standing.{ended}
 use Rattle.evp_runner.specs.Pieces.{block_of}
 use Rattle.evp_format.specs.Viewing.{until_zero}
-use Rattle.evp_record.proofs.Reading.{take-until_zero}
+use Rattle.evp_record.proofs.TextsRead.{take-until_zero}
 
 text_at : (bytes : List ℕ) (n : ℕ) (found : Option (List ℕ)) → until_zero bytes ≡ found → Some n ≡ option_map length found
     → Some (take n bytes) ≡ found

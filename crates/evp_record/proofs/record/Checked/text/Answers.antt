@@ -6,7 +6,8 @@ use Rattle.evp_format.specs.declared.broken.Broken.{Broken}
 use Rattle.evp_format.specs.Datum.{Datum, text}
 use Rattle.evp_format.specs.Viewing.{pointer_at, image_of, until_zero}
 use Rattle.evp_record.specs.Record.{value_or_null}
-use Rattle.evp_record.proofs.Reading.{TextRead, text_read, take-until_zero, HasNoZero-until_zero, text_part_value}
+use Rattle.evp_record.proofs.Reading.{text_part_value}
+use Rattle.evp_record.proofs.TextsRead.{TextRead, text_read, take-until_zero, HasNoZero-until_zero}
 use Rattle.evp_record.proofs.record.Checked.text.Goals as goal
 use Rattle.evp_record.proofs.record.Checked.text.Goals.{In-Some}
 

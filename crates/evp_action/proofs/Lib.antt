@@ -9,3 +9,4 @@ mod Settings
 mod SettingsStored
 mod Works
 mod Transforms
+mod WrittenPart

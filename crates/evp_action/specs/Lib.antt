@@ -8,3 +8,4 @@ pub mod Converted
 pub mod Settings
 pub mod Working
 pub mod MadeRecord
+pub mod PackedRecord

@@ -31,6 +31,7 @@ use std::sync::Arc;
 ///
 /// The formats are those of the cache, of which the pass is one; the action agrees with them, and
 /// the record has a value in its format.
+#[inline(always)]
 pub fn act(
     alloc: Global,
     action: &Action,
@@ -70,6 +71,7 @@ pub fn act(
 }
 
 // The same, where a refusal isn't an answer.
+#[inline(always)]
 fn acted(
     alloc: Global,
     action: &Action,

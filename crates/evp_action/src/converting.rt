@@ -1,5 +1,6 @@
 //! Records in the format that an action names.
-ghost use Rattle.std.specs.Prelude.{◌≡◌, ◌<◌, ◌^◌, IfOk, IfErr, IfSome, Some, length, slice_get};
+ghost use Rattle.std.specs.Prelude.{◌≡◌, ◌<◌, ◌≤◌, ◌^◌, IfOk, IfErr, IfSome, Some, length};
+ghost use Rattle.std.specs.Prelude.{replicate, slice_get, take};
 ghost use Rattle.std.specs.Arc.{arc_value};
 ghost use Rattle.std.specs.Cow.{cow_slice_items, IsBorrowedSlice};
 ghost use Rattle.evp_action.specs.Asking.{Keeps, AsksOnly, BuildsFor};
@@ -7,6 +8,7 @@ ghost use Rattle.evp_action.specs.Converted.{CanAsk, IsInto, IsPackedInto, IsCau
 ghost use Rattle.evp_action.specs.Converted.{plan_of, fault_reason, spare};
 ghost use Rattle.evp_action.specs.Converted.{IsPackedConversion};
 ghost use Rattle.evp_action.specs.MadeRecord.{record_in};
+ghost use Rattle.evp_action.specs.PackedRecord.{bytes_in, LiesInRoom};
 ghost use Rattle.evp_action.specs.Performed.{HasValue};
 ghost use Rattle.evp_cache.specs.Known.{IsFoundFor};
 ghost use Rattle.evp_format.specs.Converting.{convert};
@@ -19,13 +21,14 @@ ghost use Rattle.evp_runner.specs.Running.{IsRunFault};
 
 use crate::Reason;
 use crate::made::Made;
+use crate::packed::Packed;
 use crate::refusal::Refusal;
 use evp_base::Memory;
 use evp_cache::{CachePass, Found, PlanCache};
 use evp_format::{Format, path_of};
 use evp_plan::{Builds, Plan};
-use evp_record::{Checked, Draft, Owned, PackedBytes};
-use evp_runner::{RunFault, pass, run, run_quickly};
+use evp_record::{Checked, Draft, IN_PLACE, KeptBytes, Owned};
+use evp_runner::{RunFault, pass, run, run_in_room};
 use std::alloc::{AllocError, Global};
 use std::borrow::CowSlice;
 use std::sync::Arc;
@@ -40,8 +43,9 @@ pub(crate) struct Converter<'a> {
 }
 
 impl<'a> Converter<'a> {
-    // The record in the format of this number: itself where that is the number of its own. Inlined,
-    // so that a new record isn't copied from call to call.
+    // The record in the format of this number: itself where that is the number of its own. A new one
+    // that is short lies in this room, which is empty. Inlined, so that what says where a record lies
+    // isn't copied from call to call.
     #[inline(always)]
     pub fn convert<'b>(
         &self,
@@ -50,10 +54,12 @@ impl<'a> Converter<'a> {
         builds: &mut Builds,
         item: &'b Arc<Owned, Global>,
         to: u16,
+        room: &'b mut [u8; IN_PLACE],
     ) -> Result<Made<'b>, Refusal>
         requires ask { CanAsk self.now.cache.now self.now.formats.now known.old (arc_value
             item.now).format to }
         requires has { HasValueIn self.now.formats.now (arc_value item.now) }
+        requires zeros { room.old ≡ replicate IN_PLACE 0 }
         ensures made { IfOk result (λ made. (value : Datum)
             → HasValue self.now.formats.now (arc_value item.now) value
             → IsInto self.now.formats.now (arc_value item.now).format to self.now.limit value
@@ -68,12 +74,47 @@ impl<'a> Converter<'a> {
     {
         let from = item.format();
         let found = known.get(alloc, self.cache, self.formats, from, to, builds)?;
-        self.converted(alloc, found, item, to)
+        self.converted(alloc, found, item, to, room)
     }
 
     // The record by what was found for the pair of its format and that of this number.
     #[inline(always)]
     fn converted<'b>(
+        &self,
+        alloc: Global,
+        found: &Found,
+        item: &'b Arc<Owned, Global>,
+        to: u16,
+        room: &'b mut [u8; IN_PLACE],
+    ) -> Result<Made<'b>, Refusal>
+        requires found { IsFoundFor self.now.formats.now (arc_value item.now).format to found.now }
+        requires has { HasValueIn self.now.formats.now (arc_value item.now) }
+        requires zeros { room.old ≡ replicate IN_PLACE 0 }
+        ensures made { IfOk result (λ made. (value : Datum)
+            → HasValue self.now.formats.now (arc_value item.now) value
+            → IsInto self.now.formats.now (arc_value item.now).format to self.now.limit value
+            (record_in made)) }
+        ensures cause { IfErr result (λ cause. (value : Datum)
+            → HasValue self.now.formats.now (arc_value item.now) value
+            → IsCause self.now.formats.now (arc_value item.now).format to self.now.limit value
+            cause) }
+    {
+        let plan = plan_in(found)?;
+        if plan.alike() {
+            return self.passed(alloc, found, item, to);
+        }
+        let checked = item.checked(self.formats);
+        let bytes = checked.bytes();
+        match packed_in_room(plan, &checked, bytes, self.limit, room) {
+            Some(size) => Ok(Made::InRoom(Draft::new(to, size, room))),
+            None => self.converted_fully(alloc, found, item, to),
+        }
+    }
+
+    // The same where the two formats are equal: the record itself where their numbers are, too, else
+    // a copy.
+    #[inline(never)]
+    fn passed<'b>(
         &self,
         alloc: Global,
         found: &Found,
@@ -92,11 +133,6 @@ impl<'a> Converter<'a> {
             cause) }
     {
         let plan = plan_in(found)?;
-        if !plan.alike() {
-            let same = Made::Same(item);
-            let bytes = self.packed_by(alloc, found, &same, to)?;
-            return Ok(Made::New(Draft::new(to, bytes)));
-        }
         match pass(alloc, plan, item.checked(self.formats), self.limit) {
             Ok(bytes) => Ok(handed_on(alloc, item, bytes, to)?),
             Err(fault) => {
@@ -106,7 +142,34 @@ impl<'a> Converter<'a> {
         }
     }
 
-    // The packed record of the format of this number.
+    // The same with bytes of its own, or the cause of a refusal. Apart from it, since room for a fault
+    // is made of zeros first.
+    #[inline(never)]
+    fn converted_fully<'b>(
+        &self,
+        alloc: Global,
+        found: &Found,
+        item: &'b Arc<Owned, Global>,
+        to: u16,
+    ) -> Result<Made<'b>, Refusal>
+        requires found { IsFoundFor self.now.formats.now (arc_value item.now).format to found.now }
+        requires has { HasValueIn self.now.formats.now (arc_value item.now) }
+        ensures made { IfOk result (λ made. (value : Datum)
+            → HasValue self.now.formats.now (arc_value item.now) value
+            → IsInto self.now.formats.now (arc_value item.now).format to self.now.limit value
+            (record_in made)) }
+        ensures cause { IfErr result (λ cause. (value : Datum)
+            → HasValue self.now.formats.now (arc_value item.now) value
+            → IsCause self.now.formats.now (arc_value item.now).format to self.now.limit value
+            cause) }
+    {
+        let same = Made::Same(item);
+        let bytes = self.packed_fully(alloc, found, &same, to)?;
+        Ok(Made::Own(Owned::new(to, bytes)))
+    }
+
+    // The packed record of the format of this number, in this room, which is empty, or with bytes of
+    // its own.
     pub fn packed(
         &self,
         alloc: Global,
@@ -114,12 +177,16 @@ impl<'a> Converter<'a> {
         builds: &mut Builds,
         item: &Made<'_>,
         to: u16,
-    ) -> Result<PackedBytes, Refusal>
+        room: &mut [u8; IN_PLACE],
+    ) -> Result<Packed, Refusal>
         requires ask { CanAsk self.now.cache.now self.now.formats.now known.old (record_in item.now).format to }
         requires has { HasValueIn self.now.formats.now (record_in item.now) }
-        ensures made { IfOk result (λ bytes. (value : Datum)
+        requires zeros { room.old ≡ replicate IN_PLACE 0 }
+        ensures within { IfOk result LiesInRoom }
+        ensures made { IfOk result (λ packed. (value : Datum)
             → HasValue self.now.formats.now (record_in item.now) value
-            → IsPackedInto self.now.formats.now (record_in item.now).format to self.now.limit value bytes) }
+            → IsPackedInto self.now.formats.now (record_in item.now).format to self.now.limit value
+            (bytes_in room.new packed)) }
         ensures cause { IfErr result (λ cause. (value : Datum)
             → HasValue self.now.formats.now (record_in item.now) value
             → IsCause self.now.formats.now (record_in item.now).format to self.now.limit value cause) }
@@ -129,7 +196,7 @@ impl<'a> Converter<'a> {
     {
         let from = item.format();
         let found = known.get(alloc, self.cache, self.formats, from, to, builds)?;
-        self.packed_by(alloc, found, item, to)
+        self.packed_by(alloc, found, item, to, room)
     }
 
     // The packed record by what was found for the pair of its format and that of this number.
@@ -140,12 +207,16 @@ impl<'a> Converter<'a> {
         found: &Found,
         item: &Made<'_>,
         to: u16,
-    ) -> Result<PackedBytes, Refusal>
+        room: &mut [u8; IN_PLACE],
+    ) -> Result<Packed, Refusal>
         requires found { IsFoundFor self.now.formats.now (record_in item.now).format to found.now }
         requires has { HasValueIn self.now.formats.now (record_in item.now) }
-        ensures made { IfOk result (λ bytes. (value : Datum)
+        requires zeros { room.old ≡ replicate IN_PLACE 0 }
+        ensures within { IfOk result LiesInRoom }
+        ensures made { IfOk result (λ packed. (value : Datum)
             → HasValue self.now.formats.now (record_in item.now) value
-            → IsPackedInto self.now.formats.now (record_in item.now).format to self.now.limit value bytes) }
+            → IsPackedInto self.now.formats.now (record_in item.now).format to self.now.limit value
+            (bytes_in room.new packed)) }
         ensures cause { IfErr result (λ cause. (value : Datum)
             → HasValue self.now.formats.now (record_in item.now) value
             → IsCause self.now.formats.now (record_in item.now).format to self.now.limit value cause) }
@@ -153,9 +224,9 @@ impl<'a> Converter<'a> {
         let plan = plan_in(found)?;
         let checked = item.checked(self.formats);
         let bytes = checked.bytes();
-        match packed_quickly(plan, &checked, bytes, self.limit) {
-            Some(packed) => Ok(packed),
-            None => self.packed_fully(alloc, found, item, to),
+        match packed_in_room(plan, &checked, bytes, self.limit, room) {
+            Some(size) => Ok(Packed::InRoom(size)),
+            None => Ok(Packed::Own(self.packed_fully(alloc, found, item, to)?)),
         }
     }
 
@@ -168,12 +239,12 @@ impl<'a> Converter<'a> {
         found: &Found,
         item: &Made<'_>,
         to: u16,
-    ) -> Result<PackedBytes, Refusal>
+    ) -> Result<Vec<u8>, Refusal>
         requires found { IsFoundFor self.now.formats.now (record_in item.now).format to found.now }
         requires has { HasValueIn self.now.formats.now (record_in item.now) }
         ensures made { IfOk result (λ bytes. (value : Datum)
             → HasValue self.now.formats.now (record_in item.now) value
-            → IsPackedInto self.now.formats.now (record_in item.now).format to self.now.limit value bytes) }
+            → IsPackedInto self.now.formats.now (record_in item.now).format to self.now.limit value bytes.items) }
         ensures cause { IfErr result (λ cause. (value : Datum)
             → HasValue self.now.formats.now (record_in item.now) value
             → IsCause self.now.formats.now (record_in item.now).format to self.now.limit value cause) }
@@ -182,7 +253,7 @@ impl<'a> Converter<'a> {
         let checked = item.checked(self.formats);
         let bytes = checked.bytes();
         match packed_record(alloc, plan, checked, bytes, self.limit) {
-            Ok(packed) => Ok(PackedBytes::of(packed)),
+            Ok(packed) => Ok(packed),
             Err(fault) => {
                 let receiver = &self.formats[usize::from(to)];
                 Err(Refusal::Cause(fault_reason(alloc, receiver, fault)?))
@@ -221,16 +292,25 @@ fn packed_record(
     run(alloc, plan, item, limit)
 }
 
-// The same, where it is easily made and short.
+// The same in this room, which is empty, where it is easily made and short: how many of its bytes
+// are the record.
 #[inline(always)]
-fn packed_quickly(plan: &Plan, item: &Checked<'_>, bytes: &[u8], limit: u32) -> Option<PackedBytes>
+fn packed_in_room(
+    plan: &Plan,
+    item: &Checked<'_>,
+    bytes: &[u8],
+    limit: u32,
+    room: &mut [u8; IN_PLACE],
+) -> Option<u8>
     requires own { bytes.now ≡ item.now.bytes }
     requires plan_from { IsPlanFrom plan.now item.now.layout }
-    ensures { IfSome result (λ packed. (to : Layout) → StandsFor plan.now item.now.layout to
-        → IsPackedConversion item.now to limit packed) }
+    requires zeros { room.old ≡ replicate IN_PLACE 0 }
+    ensures within { IfSome result (λ size. size ≤ IN_PLACE) }
+    ensures made { IfSome result (λ size. (to : Layout) → StandsFor plan.now item.now.layout to
+        → IsPackedConversion item.now to limit (take size room.new)) }
 {
     let _types = item.format().types();
-    run_quickly(plan, item, limit)
+    run_in_room(plan, item, limit, room)
 }
 
 // Why a record whose conversion has this fault is refused.
@@ -261,11 +341,11 @@ fn handed_on<'b>(
             if item.format() == to {
                 return Ok(Made::Same(item));
             }
-            PackedBytes::copied(alloc, own)?
+            KeptBytes::copied(alloc, own)?
         }
-        CowSlice::Owned(bytes) => PackedBytes::of(bytes),
+        CowSlice::Owned(bytes) => KeptBytes::of(bytes),
     };
-    Ok(Made::New(Draft::new(to, bytes)))
+    Ok(Made::Own(Owned::kept(to, bytes)))
 }
 
 // The format of this number.

@@ -20,6 +20,7 @@ use evp_eval::{Bound, EvalFault, eval};
 use evp_format::Format;
 use evp_plan::Builds;
 use evp_record::Owned;
+use evp_runner::empty_room;
 use std::alloc::Global;
 use std::sync::Arc;
 
@@ -41,7 +42,8 @@ pub(crate) fn receive(
         (λ _. ((arc_value item.now).format, format) ∷ []) pass.old pass.new
         builds.old builds.new result }
 {
-    let made = converter.convert(alloc, pass, builds, item, format)?;
+    let mut room = empty_room();
+    let made = converter.convert(alloc, pass, builds, item, format, &mut room)?;
     Ok(Acted::Arrived(made.into_arc(alloc)?))
 }
 
@@ -65,7 +67,8 @@ pub(crate) fn filter(
         (λ _. ((arc_value item.now).format, format) ∷ []) pass.old pass.new
         builds.old builds.new result }
 {
-    let made = converter.convert(alloc, pass, builds, item, format)?;
+    let mut room = empty_room();
+    let made = converter.convert(alloc, pass, builds, item, format, &mut room)?;
     filtered(alloc, converter.formats, test, made)
 }
 
@@ -90,7 +93,8 @@ pub(crate) fn route(
         (λ _. ((arc_value item.now).format, format) ∷ []) pass.old pass.new
         builds.old builds.new result }
 {
-    let made = converter.convert(alloc, pass, builds, item, format)?;
+    let mut room = empty_room();
+    let made = converter.convert(alloc, pass, builds, item, format, &mut room)?;
     routed(alloc, converter.formats, targets, choose, made)
 }
 

@@ -7,6 +7,7 @@ mod action;
 mod converting;
 mod deciding;
 mod made;
+mod packed;
 mod refusal;
 mod setting;
 mod storing;

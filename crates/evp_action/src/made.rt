@@ -11,11 +11,13 @@ use evp_record::{Checked, Draft, Owned};
 use std::alloc::{AllocError, AllocFailed, Global};
 use std::sync::Arc;
 
-// The item itself, or a new record, which has no block of memory of its own yet.
+// The item itself, or a new record, which isn't shared yet: in room of the caller's, or with bytes
+// of its own.
 #[derive(Drop)]
 pub(crate) enum Made<'a> {
     Same(&'a Arc<Owned, Global>),
-    New(Draft),
+    InRoom(Draft<'a>),
+    Own(Owned),
 }
 
 impl<'a> Made<'a> {
@@ -26,7 +28,8 @@ impl<'a> Made<'a> {
     {
         match self {
             Made::Same(item) => item.format(),
-            Made::New(draft) => draft.format(),
+            Made::InRoom(draft) => draft.format(),
+            Made::Own(owned) => owned.format(),
         }
     }
 
@@ -40,7 +43,8 @@ impl<'a> Made<'a> {
     {
         match self {
             Made::Same(item) => item.checked(formats),
-            Made::New(draft) => draft.checked(formats),
+            Made::InRoom(draft) => draft.checked(formats),
+            Made::Own(owned) => owned.checked(formats),
         }
     }
 
@@ -51,7 +55,8 @@ impl<'a> Made<'a> {
     {
         match self {
             Made::Same(item) => Ok(Arc::try_clone(item)?),
-            Made::New(draft) => Ok(Arc::new(alloc, draft.owned(alloc)?)?),
+            Made::InRoom(draft) => Ok(Arc::new(alloc, draft.owned(alloc)?)?),
+            Made::Own(owned) => Ok(Arc::new(alloc, owned)?),
         }
     }
 }

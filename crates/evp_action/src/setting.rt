@@ -15,7 +15,7 @@ use crate::{Reason, Setting};
 use evp_base::{FieldPath, Step, fits};
 use evp_eval::eval;
 use evp_format::{Base, Field, Format};
-use evp_record::{Checked, PackedBytes};
+use evp_record::Checked;
 use std::alloc::Global;
 
 // Stores the number of each setting, one after another: each expression sees the item.
@@ -24,7 +24,7 @@ pub(crate) fn set_fields(
     item: &Checked<'_>,
     receiver: &Format,
     set: &[Setting],
-    bytes: &mut PackedBytes,
+    bytes: &mut [u8],
 ) -> Result<(), Refusal>
     requires settings { All (CanSet item.now.layout receiver.now) set.now }
     requires few { length set.now ≤ 2 ^ 16 }
@@ -48,7 +48,7 @@ fn set_field(
     receiver: &Format,
     k: u16,
     setting: &Setting,
-    bytes: &mut PackedBytes,
+    bytes: &mut [u8],
 ) -> Result<(), Refusal>
     requires can { CanSet item.now.layout receiver.now setting.now }
     requires packed { IsPackedRecord receiver.now bytes.old }

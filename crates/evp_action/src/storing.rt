@@ -6,12 +6,12 @@ ghost use Rattle.evp_action.specs.Agreement.{IsSettable};
 ghost use Rattle.evp_action.specs.Storing.{IsPacked, IsPackedRecord, FitsField};
 ghost use Rattle.evp_format.specs.Datum.{Entries};
 
+use evp_base::put_number;
 use evp_format::Format;
-use evp_record::PackedBytes;
 
 // Stores a number in a single number field of a packed record, which counts no array: the record is
 // then the packed one of the same fields with that number. Takes no memory.
-pub(crate) fn store(format: &Format, field: u16, number: i128, bytes: &mut PackedBytes)
+pub(crate) fn store(format: &Format, field: u16, number: i128, bytes: &mut [u8])
     requires settable { IsSettable format.now field }
     requires fits { FitsField format.now field number }
     requires packed { IsPackedRecord format.now bytes.old }
@@ -21,5 +21,8 @@ pub(crate) fn store(format: &Format, field: u16, number: i128, bytes: &mut Packe
 {
     let last = format.types().len() - 1;
     let target = format.field(last as u16, field);
-    bytes.put_number(target.offset as usize, format.order(), target.size, number);
+    let at = target.offset as usize;
+    let count = target.size as usize;
+    let order = format.order();
+    put_number(&mut bytes[at..at + count], order, target.size, number);
 }

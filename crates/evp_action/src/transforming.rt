@@ -1,11 +1,12 @@
 //! Transforms: two conversions, and the fields that are set in what they make.
-ghost use Rattle.std.specs.Prelude.{◌≡◌, ℕ, Some, slice_get};
+ghost use Rattle.std.specs.Prelude.{◌≡◌, ◌≤◌, ℕ, Some, slice_get, take};
 ghost use Rattle.std.specs.Arc.{arc_value};
 ghost use Rattle.evp_action.specs.Acting.{transforms, transformed};
 ghost use Rattle.evp_action.specs.Agreement.{AreSettings};
 ghost use Rattle.evp_action.specs.Asking.{transform_pairs};
 ghost use Rattle.evp_action.specs.Converted.{IsPackedIn};
 ghost use Rattle.evp_action.specs.MadeRecord.{record_in};
+ghost use Rattle.evp_action.specs.PackedRecord.{bytes_in, LiesInRoom};
 ghost use Rattle.evp_action.specs.Performed.{HasValue};
 ghost use Rattle.evp_action.specs.Working.{IsAnswer, Works};
 ghost use Rattle.evp_cache.specs.Known.{IsCacheOf, IsPassOf};
@@ -14,13 +15,15 @@ ghost use Rattle.evp_record.specs.Owned.{HasValueIn};
 
 use crate::converting::{Converter, format_of};
 use crate::made::Made;
+use crate::packed::Packed;
 use crate::refusal::Refusal;
 use crate::setting::set_fields;
 use crate::{Acted, Setting, To};
 use evp_cache::CachePass;
 use evp_format::Format;
 use evp_plan::Builds;
-use evp_record::{Draft, Owned, PackedBytes};
+use evp_record::{Draft, IN_PLACE, Owned};
+use evp_runner::empty_room;
 use std::alloc::Global;
 use std::sync::Arc;
 
@@ -47,32 +50,96 @@ pub(crate) fn transform(
         (transform_pairs converter.now.formats.now converter.now.limit format into
         (arc_value item.now).format) pass.old pass.new builds.old builds.new result }
 {
-    let made = converter.convert(alloc, pass, builds, item, format)?;
-    let bytes = converter.packed(alloc, pass, builds, &made, into)?;
-    with_fields_set(alloc, converter.formats, &made, into, set, bytes)
+    let mut room = empty_room();
+    let made = converter.convert(alloc, pass, builds, item, format, &mut room)?;
+    let mut second = empty_room();
+    let packed = converter.packed(alloc, pass, builds, &made, into, &mut second)?;
+    with_fields_set(
+        alloc,
+        converter.formats,
+        &made,
+        into,
+        set,
+        packed,
+        &mut second,
+    )
 }
 
-// Sets the fields of a packed record of the format of this number, and sends it on.
+// Sets the fields of a packed record of the format of this number, whose bytes may lie in this room,
+// and sends it on.
+#[inline(always)]
 fn with_fields_set(
     alloc: Global,
     formats: &[Format],
     item: &Made<'_>,
     into: u16,
     set: &[Setting],
-    mut bytes: PackedBytes,
+    packed: Packed,
+    room: &mut [u8; IN_PLACE],
 ) -> Result<Acted, Refusal>
     requires settings { (declared : ℕ) × AreSettings formats.now declared (record_in item.now).format into
         set.now }
     requires item { HasValueIn formats.now (record_in item.now) }
-    requires packed { (fields : Entries) × IsPackedIn formats.now into fields bytes }
+    requires within { LiesInRoom packed }
+    requires packed { (fields : Entries) × IsPackedIn formats.now into fields (bytes_in room.old packed) }
     ensures { (value : Datum) (fields : Entries) → HasValue formats.now (record_in item.now) value
-        → IsPackedIn formats.now into fields bytes
+        → IsPackedIn formats.now into fields (bytes_in room.old packed)
+        → IsAnswer formats.now (transformed (slice_get formats.now into) into set.now value
+        (rec fields)) result }
+{
+    match packed {
+        Packed::InRoom(size) => set_in_room(alloc, formats, item, into, set, size, room),
+        Packed::Own(bytes) => set_own(alloc, formats, item, into, set, bytes),
+    }
+}
+
+// The same of one that is the first so many bytes of this room.
+fn set_in_room(
+    alloc: Global,
+    formats: &[Format],
+    item: &Made<'_>,
+    into: u16,
+    set: &[Setting],
+    size: u8,
+    room: &mut [u8; IN_PLACE],
+) -> Result<Acted, Refusal>
+    requires settings { (declared : ℕ) × AreSettings formats.now declared (record_in item.now).format into
+        set.now }
+    requires item { HasValueIn formats.now (record_in item.now) }
+    requires within { size ≤ IN_PLACE }
+    requires packed { (fields : Entries) × IsPackedIn formats.now into fields (take size room.old) }
+    ensures { (value : Datum) (fields : Entries) → HasValue formats.now (record_in item.now) value
+        → IsPackedIn formats.now into fields (take size room.old)
+        → IsAnswer formats.now (transformed (slice_get formats.now into) into set.now value
+        (rec fields)) result }
+{
+    let receiver = format_of(formats, into);
+    let seen = item.checked(formats);
+    set_fields(alloc, &seen, receiver, set, &mut room[..size as usize])?;
+    let owned = Draft::new(into, size, room).owned(alloc)?;
+    Ok(Acted::Sent(To::All, Arc::new(alloc, owned)?))
+}
+
+// The same of one with bytes of its own.
+fn set_own(
+    alloc: Global,
+    formats: &[Format],
+    item: &Made<'_>,
+    into: u16,
+    set: &[Setting],
+    mut bytes: Vec<u8>,
+) -> Result<Acted, Refusal>
+    requires settings { (declared : ℕ) × AreSettings formats.now declared (record_in item.now).format into
+        set.now }
+    requires item { HasValueIn formats.now (record_in item.now) }
+    requires packed { (fields : Entries) × IsPackedIn formats.now into fields bytes.items }
+    ensures { (value : Datum) (fields : Entries) → HasValue formats.now (record_in item.now) value
+        → IsPackedIn formats.now into fields bytes.items
         → IsAnswer formats.now (transformed (slice_get formats.now into) into set.now value
         (rec fields)) result }
 {
     let receiver = format_of(formats, into);
     let seen = item.checked(formats);
     set_fields(alloc, &seen, receiver, set, &mut bytes)?;
-    let owned = Draft::new(into, bytes).owned(alloc)?;
-    Ok(Acted::Sent(To::All, Arc::new(alloc, owned)?))
+    Ok(Acted::Sent(To::All, Arc::new(alloc, Owned::new(into, bytes))?))
 }

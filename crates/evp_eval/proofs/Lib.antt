@@ -1,5 +1,4 @@
 mod Agreements
-mod FirstFaults
 mod Alone
 mod Bytes
 mod Compiling
@@ -8,6 +7,7 @@ mod Elements
 mod Examples
 mod Extends
 mod Fields
+mod FirstFaults
 mod JoinedUp
 mod Joins
 mod Leading

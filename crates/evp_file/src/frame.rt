@@ -193,6 +193,7 @@ fn layout_in<'a>(
 }
 
 // Whether the bytes have a value, else the fault with its path.
+#[inline(always)]
 fn check_record(alloc: Global, at: u32, format: &Format, bytes: &[u8]) -> Result<(), FileFault>
     requires { length bytes.now < 2 ^ 31 }
     ensures { Gives (λ whole. whole) result (unbroken at format.now (view format.now bytes.now)) }

@@ -88,6 +88,7 @@ impl<E: Placed> StoneQueue<E> {
 
     /// Gives an entry, which is the next of its route. `Full` hands it back, and comes only where
     /// the queue was full at a step of this call. It takes no memory.
+    #[inline(always)]
     pub fn give<R: Wait>(&self, rt: &R, pass: &mut GivePass<E>, entry: E) -> Result<(), Given<E>>
         requires queue { GivesTo self.now pass.old }
         requires next { IsNext E.route_of E.position_of E.flow E.stands_for (giver_of pass.old) entry }

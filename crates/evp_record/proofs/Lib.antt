@@ -26,4 +26,3 @@ pub mod ViewBack
 pub mod ViewPacked
 pub mod ViewTyped
 pub mod ViewTypedAll
-mod HeldWritten

@@ -1,43 +1,45 @@
 //! Records that aren't shared yet.
 
-ghost use Rattle.std.specs.Prelude.{◌≡◌, ◌^◌, ◌<◌, Some, length, slice_get, IfOk};
+ghost use Rattle.std.specs.Prelude.{◌≡◌, ◌≤◌, Some, slice_get, take, IfOk};
 ghost use Rattle.evp_record.specs.Owned.{owned_of, HasValueIn, value_in};
 ghost use Rattle.evp_record.specs.Record.{value_of};
 
-use crate::{Checked, Owned, PackedBytes};
+use crate::{Checked, IN_PLACE, KeptBytes, Owned};
 use evp_base::Memory;
 use evp_format::Format;
 use std::alloc::Global;
 use std::marker::Model;
 
-/// A record before it is shared: its bytes, fewer than 2^32, of which up to `IN_PLACE` may lie in
-/// the value itself, and the number of their format in a list of formats. One that is only read or
-/// is converted again takes no memory.
+/// A short record before it is shared: its bytes, which are the first so many of a room of the
+/// caller's, and the number of their format in a list of formats. One that is only read or is
+/// converted again takes no memory, and its bytes are never moved.
 #[derive(Debug, Drop)]
-pub struct Draft {
+pub struct Draft<'a> {
     format: u16,
-    bytes: PackedBytes,
+    size: u8,
+    room: &'a [u8; IN_PLACE],
 }
 
-impl Model for Draft {
-    ghost use Rattle.std.specs.Prelude.{◌^◌, ◌<◌, length};
+impl<'a> Model for Draft<'a> {
+    ghost use Rattle.std.specs.Prelude.{◌≤◌, take};
     ghost use Rattle.evp_record.specs.OwnedBytes.{OwnedBytes};
 
     ghost Value = { OwnedBytes };
 
-    ghost view = { λ d. record { format = d.format; bytes = d.bytes } };
+    ghost view = { λ d. record { format = d.format; bytes = take d.size d.room.now } };
 
-    ghost invariant = { λ d. length d.bytes < 2 ^ 32 };
+    ghost invariant = { λ d. d.size ≤ 72 };
 }
 
-impl Draft {
-    /// These bytes, as a record of the format of this number. Takes no memory.
+impl<'a> Draft<'a> {
+    /// The first so many bytes of this room, as a record of the format of this number. Takes no
+    /// memory.
     #[inline(always)]
-    pub fn new(format: u16, bytes: PackedBytes) -> Self
-        requires { length bytes < 2 ^ 32 }
-        ensures { result ≡ owned_of format bytes }
+    pub fn new(format: u16, size: u8, room: &'a [u8; IN_PLACE]) -> Self
+        requires { size ≤ IN_PLACE }
+        ensures { result ≡ owned_of format (take size room.now) }
     {
-        Draft { format, bytes }
+        Draft { format, size, room }
     }
 
     /// The number of the format.
@@ -51,21 +53,23 @@ impl Draft {
     /// The record, for bytes that have a value in their format of these. Doesn't walk the bytes
     /// again, and takes no memory.
     #[inline(always)]
-    pub fn checked<'a>(&'a self, formats: &'a [Format]) -> Checked<'a>
+    pub fn checked<'b>(&'b self, formats: &'b [Format]) -> Checked<'b>
         requires { HasValueIn formats.now self.now }
         ensures format { slice_get formats.now self.now.format ≡ Some result.layout }
         ensures bytes { result.bytes ≡ self.now.bytes }
         ensures value { value_in formats.now self.now ≡ Some (value_of result) }
     {
-        Checked::of_viewed(&formats[usize::from(self.format)], self.bytes.as_slice())
+        let bytes = &self.room[..usize::from(self.size)];
+        Checked::of_viewed(&formats[usize::from(self.format)], bytes)
     }
 
-    /// The same record, to be shared. Takes memory where its bytes lie in this value and are more
-    /// than lie in a block that is shared.
+    /// The same record, to be shared. Takes memory where its bytes are more than lie in a block
+    /// that is shared.
     #[inline(always)]
     pub fn owned(self, alloc: Global) -> Result<Owned, Memory>
-        ensures { IfOk result (λ owned. owned ≡ self) }
+        ensures { IfOk result (λ owned. owned ≡ self.entry) }
     {
-        Ok(Owned::kept(self.format, self.bytes.kept(alloc)?))
+        let bytes = KeptBytes::of_room(alloc, self.room, usize::from(self.size))?;
+        Ok(Owned::kept(self.format, bytes))
     }
 }

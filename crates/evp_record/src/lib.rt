@@ -24,6 +24,6 @@ pub use laws::{number_is_its_bytes, packed_is_viewed, reached_is_of_type, viewed
 pub use owned::Owned;
 pub use packing::pack;
 pub use record::{Checked, check};
-pub use record_bytes::{IN_BLOCK, IN_PLACE, KeptBytes, PackedBytes, RecordBytes};
+pub use record_bytes::{IN_BLOCK, IN_PLACE, KeptBytes};
 pub use spot::Spot;
 pub use whole::view;

@@ -6,7 +6,7 @@ ghost use Rattle.evp_record.specs.Samples.{list_description, list_bytes};
 
 use evp_base::Order;
 use evp_format::{BrokenText, Items, Members, Value, read_description};
-use evp_record::{Draft, KeptBytes, Owned, PackedBytes, check, pack, view};
+use evp_record::{Draft, IN_PLACE, KeptBytes, Owned, check, pack, view};
 use std::alloc::{AllocError, Global};
 use std::test::Fail;
 
@@ -297,37 +297,37 @@ fn owned_records(rt: HostRuntime) -> Result<(), Fail> {
     Ok(())
 }
 
-// Whether copies of so many bytes, to be read and to be shared, are as long, and all of them the same.
+// Whether a copy of so many bytes, to be shared, is as long, and all of them the same.
 fn copies(alloc: Global, size: u8) -> bool {
     let Ok(bytes) = vec![in alloc; 7u8; usize::from(size)] else {
         return false;
     };
-    let (Ok(packed), Ok(kept)) = (
-        PackedBytes::copied(alloc, &bytes),
-        KeptBytes::copied(alloc, &bytes),
-    ) else {
-        return false;
-    };
-    if packed.as_slice() != bytes.as_slice() || kept.as_slice() != bytes.as_slice() {
+    match KeptBytes::copied(alloc, &bytes) {
+        Ok(kept) => kept.as_slice() == bytes.as_slice(),
+        Err(_) => false,
+    }
+}
+
+// Whether a record of the first so many bytes of a room has these once it is shared.
+fn shares(alloc: Global, size: u8) -> bool {
+    if usize::from(size) > IN_PLACE {
         return false;
     }
-    match Draft::new(3, packed).owned(alloc) {
-        Ok(owned) => owned.format() == 3 && owned.bytes() == bytes.as_slice(),
+    let room = [7u8; IN_PLACE];
+    match Draft::new(3, size, &room).owned(alloc) {
+        Ok(owned) => owned.format() == 3 && owned.bytes() == &room[..usize::from(size)],
         Err(_) => false,
     }
 }
 
 #[test]
-fn bytes_in_place_and_apart(rt: HostRuntime) -> Result<(), Fail> {
+fn bytes_in_a_block_and_apart(rt: HostRuntime) -> Result<(), Fail> {
     let alloc = rt.alloc();
-    for size in [0, 1, 37, 38, 39, 71, 72, 73, 200] {
+    for size in [0, 1, 37, 38, 39, 200] {
         assert!(rt; copies(alloc, size));
     }
-    let mut short = PackedBytes::copied(alloc, b"\x09\x09\x09\x09")?;
-    short.put_number(1, Order::Big, 2, 258);
-    assert_eq!(rt; short.as_slice(), b"\x09\x01\x02\x09".as_slice());
-    let mut long = PackedBytes::of(Vec::from_slice(alloc, b"\x09\x09\x09\x09")?);
-    long.put_number(2, Order::Little, 2, -2);
-    assert_eq!(rt; long.as_slice(), b"\x09\x09\xfe\xff".as_slice());
+    for size in [0, 1, 37, 38, 39, 71, 72] {
+        assert!(rt; shares(alloc, size));
+    }
     Ok(())
 }

@@ -23,6 +23,6 @@ mod sizing;
 mod words;
 
 pub use convert_fault::ConvertFault;
-pub use passing::{pass, run, run_quickly};
+pub use passing::{empty_room, pass, run, run_in_room};
 pub use run_fault::RunFault;
 pub use running::{measure, run_into};

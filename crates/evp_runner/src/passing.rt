@@ -1,6 +1,6 @@
 //! Conversions into bytes of their own, and records that are lent where nothing is to be converted.
 
-ghost use Rattle.std.specs.Prelude.{◌≡◌, ◌≤◌, IfOk, IfErr, IfSome, replicate};
+ghost use Rattle.std.specs.Prelude.{◌≡◌, ◌≤◌, IfOk, IfErr, IfSome, replicate, take};
 ghost use Rattle.evp_format.specs.Converting.{convert};
 ghost use Rattle.evp_format.specs.Layout.{Layout};
 ghost use Rattle.evp_plan.specs.Planned.{IsPlanFrom, StandsFor};
@@ -10,7 +10,7 @@ ghost use Rattle.evp_runner.specs.Running.{IsSizeOf, AtSize, IsConversion, IsPas
 use crate::RunFault;
 use crate::running::{measure_fully, measure_quickly, run_over};
 use evp_plan::Plan;
-use evp_record::{Checked, IN_PLACE, PackedBytes};
+use evp_record::{Checked, IN_PLACE};
 use std::alloc::{AllocError, Global};
 use std::borrow::CowSlice;
 
@@ -31,19 +31,31 @@ pub fn run(alloc: Global, plan: &Plan, item: Checked, limit: u32) -> Result<Vec<
     }
 }
 
-/// The same in place, where it is easily seen that nothing is refused and that at most `IN_PLACE`
-/// bytes are made. None says that it isn't easily seen. Takes no memory.
+/// The same in this room, which is empty, where it is easily seen that nothing is refused and that at
+/// most `IN_PLACE` bytes are made: how many of them are the record. None says that it isn't easily
+/// seen. Takes no memory.
 #[inline(always)]
-pub fn run_quickly(plan: &Plan, item: &Checked, limit: u32) -> Option<PackedBytes>
-    requires { IsPlanFrom plan.now item.now.layout }
-    ensures { IfSome result (λ bytes. (to : Layout) → StandsFor plan.now item.now.layout to
-        → IsConversion item.now to limit bytes) }
+pub fn run_in_room(plan: &Plan, item: &Checked, limit: u32, room: &mut [u8; IN_PLACE]) -> Option<u8>
+    requires plan_from { IsPlanFrom plan.now item.now.layout }
+    requires zeros { room.old ≡ replicate IN_PLACE 0 }
+    ensures within { IfSome result (λ size. size ≤ IN_PLACE) }
+    ensures made { IfSome result (λ size. (to : Layout) → StandsFor plan.now item.now.layout to
+        → IsConversion item.now to limit (take size room.new)) }
 {
     let size = measure_quickly(plan, item, limit)?;
     if size as usize > IN_PLACE {
         return None;
     }
-    Some(packed_in_place(plan, item.copy(), size))
+    pack_in_room(plan, item.copy(), size, room);
+    Some(size as u8)
+}
+
+/// Room in which a short record may be made: zeros.
+#[inline(always)]
+pub fn empty_room() -> [u8; IN_PLACE]
+    ensures { result ≡ replicate IN_PLACE 0 }
+{
+    [0; IN_PLACE]
 }
 
 // The same as `run`, with the place of a fault. Room for a fault is made of zeros where the function
@@ -176,26 +188,17 @@ fn packed(alloc: Global, plan: &Plan, item: Checked, size: u32) -> Result<Vec<u8
     Ok(bytes)
 }
 
-// The same, in the value itself, where it has room.
+// The same, in this room, which is empty.
 #[inline(always)]
-fn packed_in_place(plan: &Plan, item: Checked, size: u32) -> PackedBytes
+fn pack_in_room(plan: &Plan, item: Checked, size: u32, room: &mut [u8; IN_PLACE])
     requires plan_from { IsPlanFrom plan.now item.layout }
     requires size { IsSizeOf plan.now item size }
-    requires room { size ≤ IN_PLACE }
+    requires within { size ≤ IN_PLACE }
+    requires zeros { room.old ≡ replicate IN_PLACE 0 }
     ensures { AtSize plan.now item.entry size (λ to limit.
-        IsConversion item.entry to limit result) }
+        IsConversion item.entry to limit (take size room.new)) }
 {
-    let mut room = zeros();
     run_over(plan, item, &mut room[..size as usize], true);
-    PackedBytes::in_place(room, size as usize)
-}
-
-// Zeros, so many as lie in a value itself.
-#[inline(always)]
-fn zeros() -> [u8; IN_PLACE]
-    ensures { result ≡ replicate IN_PLACE 0 }
-{
-    [0; IN_PLACE]
 }
 
 // The same, where room for it is made only here.

@@ -44,6 +44,7 @@ pub(crate) fn act_on(
 }
 
 // What the stone's action does with the record.
+#[inline(always)]
 fn perform(
     shared: &Shared<'_>,
     learnt: &mut Learnt,

@@ -53,6 +53,7 @@ impl Model for Actor {
 }
 
 // One turn of a role.
+#[inline(always)]
 fn go<P: Port>(role: &mut Role, shared: &Shared<'_>, learnt: &mut Learnt, port: &mut P) -> Turn
     requires of { P.is_of port.old shared.now.job.now }
     requires can { CanGo shared.now.job.now shared.now.cache.now (P.taken port.old)
@@ -125,6 +126,7 @@ impl Actor {
     /// One turn: the first thing that can be done, and nothing else. `Memory` leaves the actor as
     /// it was, but for the plans that it knows, the count of those that it built, and that of its
     /// turns that found no memory.
+    #[inline(always)]
     pub fn turn<P: Port>(&mut self, job: &Job, cache: &PlanCache, port: &mut P) -> Turn
         requires of { P.is_of port.old job.now }
         requires cache { IsCacheOf cache.now job.now.formats }

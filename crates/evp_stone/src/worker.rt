@@ -41,6 +41,7 @@ pub(crate) struct Worker {
 
 impl Worker {
     /// One turn: the first that can be done.
+    #[inline(always)]
     pub(crate) fn turn<P: Port>(
         &mut self,
         shared: &Shared<'_>,
@@ -78,6 +79,7 @@ impl Worker {
     }
 
     // Gives an entry, which was the first of those that wait.
+    #[inline(always)]
     fn give<P: Port>(&mut self, job: &Job, port: &mut P, entry: Entry) -> Turn
         requires of { P.is_of port.old job.now }
         requires state { HasState job.now (P.taken port.old) (P.given port.old)

@@ -1,5 +1,4 @@
-use Rattle.std.proofs.Common.{ℕ, List, refl, sym, subst}
-use Rattle.evp_action.specs.Converted.{IsPackedInto}
+use Rattle.std.proofs.Common.{refl}
 use Rattle.evp_action.specs.MadeRecord.{record_in}
 use Rattle.evp_action.proofs.Conversions.{receiver_there, format_at, lent_by, fault_cause}
 use Rattle.evp_action.proofs.PackedConversions.{packed_into}
@@ -10,11 +9,9 @@ returns-in-Ok-clause-made c = λ value has.
     let owned = record_in c.args.item.now in
     let lent = lent_by c.args.self.now.formats.now owned owned c.checked-checked.result refl c.checked-checked.ensures.format
     c.checked-checked.ensures.bytes in
-    subst (λ (bytes : List ℕ). IsPackedInto c.args.self.now.formats.now owned.format c.args.to c.args.self.now.limit value bytes)
-    (sym c.of.ensures)
-    (packed_into c.args.self.now.formats.now owned c.args.to c.args.self.now.limit c.checked-checked.result c.args.found.now
+    packed_into c.args.self.now.formats.now owned c.args.to c.args.self.now.limit c.checked-checked.result c.args.found.now
     c.in_ok-plan.plan.now
-    c.in-Ok.packed.items value lent c.requires.found c.in_ok-plan.ensures.plan c.in-Ok.ensures.packed has)
+    c.in-Ok.packed.items value lent c.requires.found c.in_ok-plan.ensures.plan c.in-Ok.ensures.packed has
 
 pub returns-in_ok-fault_reason-in-Err-clause-cause : goal.returns-in_ok-fault_reason-in-Err-clause-cause
 returns-in_ok-fault_reason-in-Err-clause-cause c = λ value has.

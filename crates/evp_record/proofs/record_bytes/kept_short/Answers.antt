@@ -1,9 +1,0 @@
-use Rattle.std.proofs.Common.{take, ap, ◌∙◌, arith}
-use Rattle.std.proofs.lemmas.List.{take-take}
-use Rattle.evp_record.proofs.record_bytes.kept_short.Goals as goal
-
--- the bytes that are meant are among those that the block has room for
-pub returns : goal.returns
-returns c =
-    c.in_place.ensures ∙ ap (take c.args.size) c.copy_from_slice.ensures.after
-    ∙ take-take c.args.size 38 c.args.bytes.now (omega (arith, c.if-size-gt-IN_BLOCK.false))

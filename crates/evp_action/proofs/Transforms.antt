@@ -11,10 +11,10 @@ use Rattle.evp_action.specs.declared.acted.Acted.{Acted}
 use Rattle.evp_action.specs.Acting.{converting, transformed, transforms, set_from}
 use Rattle.evp_action.specs.Agreement.{AreSettings, IsSetting, IsSettable}
 use Rattle.evp_action.specs.Asking.{converts, is_converted, transform_pairs, Keeps, Asks, AsksOnly, BuildsFor}
-use Rattle.evp_action.specs.Converted.{IsConverted, IsInto, IsPackedIn, IsPackedInto, IsCause, IsRefused}
+use Rattle.evp_action.specs.Converted.{IsConverted, IsInto, IsPackedIn, IsPackedConversionOf, IsCauseFor, IsRefused}
 use Rattle.evp_action.specs.Outcome.{Outcome, sent}
-use Rattle.evp_action.specs.Performed.{HasValue, IsComeOf}
-use Rattle.evp_action.specs.Settings.{CanSet, AreSet, StopsBy}
+use Rattle.evp_action.specs.Performed.{IsComeOf}
+use Rattle.evp_action.specs.Settings.{CanSet, AreSet, StopsBy, IsAnswerWithSet}
 use Rattle.evp_action.specs.Storing.{IsPacked}
 use Rattle.evp_action.specs.Working.{IsAnswer}
 use Rattle.evp_action.proofs.Conversions.{some_same, goes_on}
@@ -132,7 +132,7 @@ behind_first formats limit format into from settings value owned is =
 -- the second is refused
 pub second_refused : (formats : List Layout) (limit format into from : ℕ) (settings : List Setting) (value : Datum) (owned : OwnedBytes)
     (cause : Refusal) → (is : IsInto formats from format limit value owned)
-    → ((made : Datum) → HasValue formats owned made → IsCause formats owned.format into limit made cause)
+    → IsCauseFor formats into limit owned cause
     → IsRefused (transforms formats limit format into settings from value) cause
 second_refused formats limit format into from settings value owned cause is why =
     subst (λ (outcome : Outcome). IsRefused outcome cause) (sym (behind_first formats limit format into from settings value owned is))
@@ -142,9 +142,7 @@ second_refused formats limit format into from settings value owned cause is why 
 -- what is done with both
 pub behind_both : (formats : List Layout) (limit format into from : ℕ) (settings : List Setting) (value : Datum) (owned : OwnedBytes)
     (bytes : List ℕ) (answer : Result Acted Refusal) → (is : IsInto formats from format limit value owned)
-    → ((made : Datum) → HasValue formats owned made → IsPackedInto formats owned.format into limit made bytes)
-    → ((made : Datum) (fields : Entries) → HasValue formats owned made → IsPackedIn formats into fields bytes
-    → IsAnswer formats (transformed (slice_get formats into) into settings made (rec fields)) answer)
+    → IsPackedConversionOf formats into limit owned bytes → IsAnswerWithSet formats into settings owned bytes answer
     → IsAnswer formats (transforms formats limit format into settings from value) answer
 behind_both formats limit format into from settings value owned bytes answer is packs does =
     let has = into_value formats from format limit value owned is in

@@ -7,6 +7,7 @@ use Rattle.evp_action.specs.declared.refusal.Refusal.{Refusal}
 use Rattle.evp_action.specs.declared.refusal.Refusal.TheVariants.{Cause, Memory}
 use Rattle.evp_action.specs.Acting.{converting}
 use Rattle.evp_action.specs.Outcome.{Outcome, refused}
+use Rattle.evp_action.specs.Performed.{HasValue}
 use Rattle.evp_action.specs.Storing.{IsPacked}
 use Rattle.evp_cache.specs.declared.found.Found.{Found}
 use Rattle.evp_cache.specs.declared.found.Found.TheVariants.{Plan, Clash}
@@ -80,6 +81,24 @@ IsCause formats from to limit value (Cause why) =
     (next : Datum → Outcome)
     → converting (slice_get formats from) (slice_get formats to) limit value next ≡ refused why
 IsCause formats from to limit value Memory = ⊤
+
+-- whatever value this record has: that one, of the format of the number, has its conversion
+abbrev pub IsConversionOf : List Layout → ℕ → ℕ → OwnedBytes → OwnedBytes → Type 0
+IsConversionOf formats to limit owned other =
+    (value : Datum) → HasValue formats owned value
+    → IsInto formats owned.format to limit value other
+
+-- whatever value the record has: the bytes are its conversion into the format of the number, packed
+abbrev pub IsPackedConversionOf : List Layout → ℕ → ℕ → OwnedBytes → List ℕ → Type 0
+IsPackedConversionOf formats to limit owned bytes =
+    (value : Datum) → HasValue formats owned value
+    → IsPackedInto formats owned.format to limit value bytes
+
+-- whatever value the record has: it is refused for this cause
+abbrev pub IsCauseFor : List Layout → ℕ → ℕ → OwnedBytes → Refusal → Type 0
+IsCauseFor formats to limit owned cause =
+    (value : Datum) → HasValue formats owned value
+    → IsCause formats owned.format to limit value cause
 
 -- the outcome is a refusal for this cause. Nothing is said of want of memory
 abbrev pub IsRefused : Outcome → Refusal → Type 0

@@ -4,15 +4,13 @@ ghost use Rattle.std.specs.Prelude.{replicate, slice_get, take};
 ghost use Rattle.std.specs.Arc.{arc_value};
 ghost use Rattle.std.specs.Cow.{cow_slice_items, IsBorrowedSlice};
 ghost use Rattle.evp_action.specs.Asking.{Keeps, AsksOnly, BuildsFor};
-ghost use Rattle.evp_action.specs.Converted.{CanAsk, IsInto, IsPackedInto, IsCause, IsClash};
+ghost use Rattle.evp_action.specs.Converted.{CanAsk, IsConversionOf, IsPackedConversion};
+ghost use Rattle.evp_action.specs.Converted.{IsPackedConversionOf, IsCauseFor, IsClash};
 ghost use Rattle.evp_action.specs.Converted.{plan_of, fault_reason, spare};
-ghost use Rattle.evp_action.specs.Converted.{IsPackedConversion};
 ghost use Rattle.evp_action.specs.MadeRecord.{record_in};
 ghost use Rattle.evp_action.specs.PackedRecord.{bytes_in, LiesInRoom};
-ghost use Rattle.evp_action.specs.Performed.{HasValue};
 ghost use Rattle.evp_cache.specs.Known.{IsFoundFor};
 ghost use Rattle.evp_format.specs.Converting.{convert};
-ghost use Rattle.evp_format.specs.Datum.{Datum};
 ghost use Rattle.evp_format.specs.Layout.{Layout};
 ghost use Rattle.evp_plan.specs.Planned.{IsPlanFrom, StandsFor};
 ghost use Rattle.evp_record.specs.Owned.{HasValueIn, owned_of};
@@ -60,14 +58,10 @@ impl<'a> Converter<'a> {
             item.now).format to }
         requires has { HasValueIn self.now.formats.now (arc_value item.now) }
         requires zeros { room.old ≡ replicate IN_PLACE 0 }
-        ensures made { IfOk result (λ made. (value : Datum)
-            → HasValue self.now.formats.now (arc_value item.now) value
-            → IsInto self.now.formats.now (arc_value item.now).format to self.now.limit value
-            (record_in made)) }
-        ensures cause { IfErr result (λ cause. (value : Datum)
-            → HasValue self.now.formats.now (arc_value item.now) value
-            → IsCause self.now.formats.now (arc_value item.now).format to self.now.limit value
-            cause) }
+        ensures made { IfOk result (λ made. IsConversionOf self.now.formats.now to
+            self.now.limit (arc_value item.now) (record_in made)) }
+        ensures cause { IfErr result (IsCauseFor self.now.formats.now to self.now.limit
+            (arc_value item.now)) }
         ensures kept { Keeps self.now.cache.now self.now.formats.now known.old known.new }
         ensures asked { AsksOnly (arc_value item.now).format to known.old known.new }
         ensures builds { BuildsFor (spare result) known.old known.new builds.old builds.new }
@@ -90,14 +84,10 @@ impl<'a> Converter<'a> {
         requires found { IsFoundFor self.now.formats.now (arc_value item.now).format to found.now }
         requires has { HasValueIn self.now.formats.now (arc_value item.now) }
         requires zeros { room.old ≡ replicate IN_PLACE 0 }
-        ensures made { IfOk result (λ made. (value : Datum)
-            → HasValue self.now.formats.now (arc_value item.now) value
-            → IsInto self.now.formats.now (arc_value item.now).format to self.now.limit value
-            (record_in made)) }
-        ensures cause { IfErr result (λ cause. (value : Datum)
-            → HasValue self.now.formats.now (arc_value item.now) value
-            → IsCause self.now.formats.now (arc_value item.now).format to self.now.limit value
-            cause) }
+        ensures made { IfOk result (λ made. IsConversionOf self.now.formats.now to
+            self.now.limit (arc_value item.now) (record_in made)) }
+        ensures cause { IfErr result (IsCauseFor self.now.formats.now to self.now.limit
+            (arc_value item.now)) }
     {
         let plan = plan_in(found)?;
         if plan.alike() {
@@ -123,14 +113,10 @@ impl<'a> Converter<'a> {
     ) -> Result<Made<'b>, Refusal>
         requires found { IsFoundFor self.now.formats.now (arc_value item.now).format to found.now }
         requires has { HasValueIn self.now.formats.now (arc_value item.now) }
-        ensures made { IfOk result (λ made. (value : Datum)
-            → HasValue self.now.formats.now (arc_value item.now) value
-            → IsInto self.now.formats.now (arc_value item.now).format to self.now.limit value
-            (record_in made)) }
-        ensures cause { IfErr result (λ cause. (value : Datum)
-            → HasValue self.now.formats.now (arc_value item.now) value
-            → IsCause self.now.formats.now (arc_value item.now).format to self.now.limit value
-            cause) }
+        ensures made { IfOk result (λ made. IsConversionOf self.now.formats.now to
+            self.now.limit (arc_value item.now) (record_in made)) }
+        ensures cause { IfErr result (IsCauseFor self.now.formats.now to self.now.limit
+            (arc_value item.now)) }
     {
         let plan = plan_in(found)?;
         match pass(alloc, plan, item.checked(self.formats), self.limit) {
@@ -154,14 +140,10 @@ impl<'a> Converter<'a> {
     ) -> Result<Made<'b>, Refusal>
         requires found { IsFoundFor self.now.formats.now (arc_value item.now).format to found.now }
         requires has { HasValueIn self.now.formats.now (arc_value item.now) }
-        ensures made { IfOk result (λ made. (value : Datum)
-            → HasValue self.now.formats.now (arc_value item.now) value
-            → IsInto self.now.formats.now (arc_value item.now).format to self.now.limit value
-            (record_in made)) }
-        ensures cause { IfErr result (λ cause. (value : Datum)
-            → HasValue self.now.formats.now (arc_value item.now) value
-            → IsCause self.now.formats.now (arc_value item.now).format to self.now.limit value
-            cause) }
+        ensures made { IfOk result (λ made. IsConversionOf self.now.formats.now to
+            self.now.limit (arc_value item.now) (record_in made)) }
+        ensures cause { IfErr result (IsCauseFor self.now.formats.now to self.now.limit
+            (arc_value item.now)) }
     {
         let same = Made::Same(item);
         let bytes = self.packed_fully(alloc, found, &same, to)?;
@@ -183,13 +165,10 @@ impl<'a> Converter<'a> {
         requires has { HasValueIn self.now.formats.now (record_in item.now) }
         requires zeros { room.old ≡ replicate IN_PLACE 0 }
         ensures within { IfOk result LiesInRoom }
-        ensures made { IfOk result (λ packed. (value : Datum)
-            → HasValue self.now.formats.now (record_in item.now) value
-            → IsPackedInto self.now.formats.now (record_in item.now).format to self.now.limit value
-            (bytes_in room.new packed)) }
-        ensures cause { IfErr result (λ cause. (value : Datum)
-            → HasValue self.now.formats.now (record_in item.now) value
-            → IsCause self.now.formats.now (record_in item.now).format to self.now.limit value cause) }
+        ensures made { IfOk result (λ packed. IsPackedConversionOf self.now.formats.now to
+            self.now.limit (record_in item.now) (bytes_in room.new packed)) }
+        ensures cause { IfErr result (IsCauseFor self.now.formats.now to self.now.limit
+            (record_in item.now)) }
         ensures kept { Keeps self.now.cache.now self.now.formats.now known.old known.new }
         ensures asked { AsksOnly (record_in item.now).format to known.old known.new }
         ensures builds { BuildsFor (spare result) known.old known.new builds.old builds.new }
@@ -213,13 +192,10 @@ impl<'a> Converter<'a> {
         requires has { HasValueIn self.now.formats.now (record_in item.now) }
         requires zeros { room.old ≡ replicate IN_PLACE 0 }
         ensures within { IfOk result LiesInRoom }
-        ensures made { IfOk result (λ packed. (value : Datum)
-            → HasValue self.now.formats.now (record_in item.now) value
-            → IsPackedInto self.now.formats.now (record_in item.now).format to self.now.limit value
-            (bytes_in room.new packed)) }
-        ensures cause { IfErr result (λ cause. (value : Datum)
-            → HasValue self.now.formats.now (record_in item.now) value
-            → IsCause self.now.formats.now (record_in item.now).format to self.now.limit value cause) }
+        ensures made { IfOk result (λ packed. IsPackedConversionOf self.now.formats.now to
+            self.now.limit (record_in item.now) (bytes_in room.new packed)) }
+        ensures cause { IfErr result (IsCauseFor self.now.formats.now to self.now.limit
+            (record_in item.now)) }
     {
         let plan = plan_in(found)?;
         let checked = item.checked(self.formats);
@@ -242,12 +218,10 @@ impl<'a> Converter<'a> {
     ) -> Result<Vec<u8>, Refusal>
         requires found { IsFoundFor self.now.formats.now (record_in item.now).format to found.now }
         requires has { HasValueIn self.now.formats.now (record_in item.now) }
-        ensures made { IfOk result (λ bytes. (value : Datum)
-            → HasValue self.now.formats.now (record_in item.now) value
-            → IsPackedInto self.now.formats.now (record_in item.now).format to self.now.limit value bytes.items) }
-        ensures cause { IfErr result (λ cause. (value : Datum)
-            → HasValue self.now.formats.now (record_in item.now) value
-            → IsCause self.now.formats.now (record_in item.now).format to self.now.limit value cause) }
+        ensures made { IfOk result (λ bytes. IsPackedConversionOf self.now.formats.now to
+            self.now.limit (record_in item.now) bytes.items) }
+        ensures cause { IfErr result (IsCauseFor self.now.formats.now to self.now.limit
+            (record_in item.now)) }
     {
         let plan = plan_in(found)?;
         let checked = item.checked(self.formats);

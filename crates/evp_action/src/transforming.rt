@@ -1,16 +1,14 @@
 //! Transforms: two conversions, and the fields that are set in what they make.
-ghost use Rattle.std.specs.Prelude.{◌≡◌, ◌≤◌, ℕ, Some, slice_get, take};
+ghost use Rattle.std.specs.Prelude.{◌≤◌, take};
 ghost use Rattle.std.specs.Arc.{arc_value};
-ghost use Rattle.evp_action.specs.Acting.{transforms, transformed};
+ghost use Rattle.evp_action.specs.Acting.{transforms};
 ghost use Rattle.evp_action.specs.Agreement.{AreSettings};
 ghost use Rattle.evp_action.specs.Asking.{transform_pairs};
-ghost use Rattle.evp_action.specs.Converted.{IsPackedIn};
 ghost use Rattle.evp_action.specs.MadeRecord.{record_in};
 ghost use Rattle.evp_action.specs.PackedRecord.{bytes_in, LiesInRoom};
-ghost use Rattle.evp_action.specs.Performed.{HasValue};
-ghost use Rattle.evp_action.specs.Working.{IsAnswer, Works};
+ghost use Rattle.evp_action.specs.Settings.{MaySet, IsPackedRecordIn, IsAnswerWithSet};
+ghost use Rattle.evp_action.specs.Working.{Works};
 ghost use Rattle.evp_cache.specs.Known.{IsCacheOf, IsPassOf};
-ghost use Rattle.evp_format.specs.Datum.{Datum, Entries, rec};
 ghost use Rattle.evp_record.specs.Owned.{HasValueIn};
 
 use crate::converting::{Converter, format_of};
@@ -77,15 +75,11 @@ fn with_fields_set(
     packed: Packed,
     room: &mut [u8; IN_PLACE],
 ) -> Result<Acted, Refusal>
-    requires settings { (declared : ℕ) × AreSettings formats.now declared (record_in item.now).format into
-        set.now }
+    requires settings { MaySet formats.now into set.now (record_in item.now) }
     requires item { HasValueIn formats.now (record_in item.now) }
     requires within { LiesInRoom packed }
-    requires packed { (fields : Entries) × IsPackedIn formats.now into fields (bytes_in room.old packed) }
-    ensures { (value : Datum) (fields : Entries) → HasValue formats.now (record_in item.now) value
-        → IsPackedIn formats.now into fields (bytes_in room.old packed)
-        → IsAnswer formats.now (transformed (slice_get formats.now into) into set.now value
-        (rec fields)) result }
+    requires packed { IsPackedRecordIn formats.now into (bytes_in room.old packed) }
+    ensures { IsAnswerWithSet formats.now into set.now (record_in item.now) (bytes_in room.old packed) result }
 {
     match packed {
         Packed::InRoom(size) => set_in_room(alloc, formats, item, into, set, size, room),
@@ -103,15 +97,11 @@ fn set_in_room(
     size: u8,
     room: &mut [u8; IN_PLACE],
 ) -> Result<Acted, Refusal>
-    requires settings { (declared : ℕ) × AreSettings formats.now declared (record_in item.now).format into
-        set.now }
+    requires settings { MaySet formats.now into set.now (record_in item.now) }
     requires item { HasValueIn formats.now (record_in item.now) }
     requires within { size ≤ IN_PLACE }
-    requires packed { (fields : Entries) × IsPackedIn formats.now into fields (take size room.old) }
-    ensures { (value : Datum) (fields : Entries) → HasValue formats.now (record_in item.now) value
-        → IsPackedIn formats.now into fields (take size room.old)
-        → IsAnswer formats.now (transformed (slice_get formats.now into) into set.now value
-        (rec fields)) result }
+    requires packed { IsPackedRecordIn formats.now into (take size room.old) }
+    ensures { IsAnswerWithSet formats.now into set.now (record_in item.now) (take size room.old) result }
 {
     let receiver = format_of(formats, into);
     let seen = item.checked(formats);
@@ -129,14 +119,10 @@ fn set_own(
     set: &[Setting],
     mut bytes: Vec<u8>,
 ) -> Result<Acted, Refusal>
-    requires settings { (declared : ℕ) × AreSettings formats.now declared (record_in item.now).format into
-        set.now }
+    requires settings { MaySet formats.now into set.now (record_in item.now) }
     requires item { HasValueIn formats.now (record_in item.now) }
-    requires packed { (fields : Entries) × IsPackedIn formats.now into fields bytes.items }
-    ensures { (value : Datum) (fields : Entries) → HasValue formats.now (record_in item.now) value
-        → IsPackedIn formats.now into fields bytes.items
-        → IsAnswer formats.now (transformed (slice_get formats.now into) into set.now value
-        (rec fields)) result }
+    requires packed { IsPackedRecordIn formats.now into bytes.items }
+    ensures { IsAnswerWithSet formats.now into set.now (record_in item.now) bytes.items result }
 {
     let receiver = format_of(formats, into);
     let seen = item.checked(formats);

@@ -4,7 +4,6 @@ mod readers;
 ghost use Rattle.std.specs.Prelude.{◌≡◌, ◌<◌, length};
 ghost use Rattle.evp_record.specs.Samples.{list_description, list_bytes};
 
-use evp_base::Order;
 use evp_format::{BrokenText, Items, Members, Value, read_description};
 use evp_record::{Draft, IN_PLACE, KeptBytes, Owned, check, pack, view};
 use std::alloc::{AllocError, Global};
@@ -297,25 +296,29 @@ fn owned_records(rt: HostRuntime) -> Result<(), Fail> {
     Ok(())
 }
 
-// Whether a copy of so many bytes, to be shared, is as long, and all of them the same.
+// Bytes of which none is another.
+const LETTERS: &[u8; IN_PLACE] =
+    b"0123456789ABCDEFGHIJKLMNOPQRSTUVWXYZabcdefghijklmnopqrstuvwxyz+/-_.,:;=!";
+
+// Whether a copy of the first so many letters, to be shared, is as long, and all of them the same.
 fn copies(alloc: Global, size: u8) -> bool {
-    let Ok(bytes) = vec![in alloc; 7u8; usize::from(size)] else {
+    if usize::from(size) > IN_PLACE {
         return false;
-    };
-    match KeptBytes::copied(alloc, &bytes) {
-        Ok(kept) => kept.as_slice() == bytes.as_slice(),
+    }
+    let first = &LETTERS[..usize::from(size)];
+    match KeptBytes::copied(alloc, first) {
+        Ok(kept) => kept.as_slice() == first,
         Err(_) => false,
     }
 }
 
-// Whether a record of the first so many bytes of a room has these once it is shared.
+// Whether a record of the first so many letters, in room, has these once it is shared.
 fn shares(alloc: Global, size: u8) -> bool {
     if usize::from(size) > IN_PLACE {
         return false;
     }
-    let room = [7u8; IN_PLACE];
-    match Draft::new(3, size, &room).owned(alloc) {
-        Ok(owned) => owned.format() == 3 && owned.bytes() == &room[..usize::from(size)],
+    match Draft::new(3, size, LETTERS).owned(alloc) {
+        Ok(owned) => owned.format() == 3 && owned.bytes() == &LETTERS[..usize::from(size)],
         Err(_) => false,
     }
 }
@@ -323,10 +326,8 @@ fn shares(alloc: Global, size: u8) -> bool {
 #[test]
 fn bytes_in_a_block_and_apart(rt: HostRuntime) -> Result<(), Fail> {
     let alloc = rt.alloc();
-    for size in [0, 1, 37, 38, 39, 200] {
-        assert!(rt; copies(alloc, size));
-    }
     for size in [0, 1, 37, 38, 39, 71, 72] {
+        assert!(rt; copies(alloc, size));
         assert!(rt; shares(alloc, size));
     }
     Ok(())

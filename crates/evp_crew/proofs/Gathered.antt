@@ -45,21 +45,21 @@ pub done_last : (three : Three) (all seats : List SeatShape) (seat : SeatShape) 
 done_last three all seats seat is are =
     are (length seats) seat (ap (λ (l : List SeatShape). slice_get l (length seats)) is ∙ last_there seats seat (length seats) refl)
 
-pub work_front : (rota : Rota) (three : Three) (all workers : List Worker) (worker : Worker) → all ≡ workers ++ worker ∷ []
-    → AllWork rota three all → AllWork rota three workers
-work_front rota three all workers worker is are place w at =
+pub work_front : (rotas : List Rota) (three : Three) (all workers : List Worker) (worker : Worker) → all ≡ workers ++ worker ∷ []
+    → AllWork rotas three all → AllWork rotas three workers
+work_front rotas three all workers worker is are place w at =
     are place w (ap (λ (l : List Worker). slice_get l place) is ∙ front_at workers (worker ∷ []) place w at)
 
-pub work_last : (rota : Rota) (three : Three) (all workers : List Worker) (worker : Worker) → all ≡ workers ++ worker ∷ []
-    → AllWork rota three all → WorksAt rota three worker
-work_last rota three all workers worker is are =
+pub work_last : (rotas : List Rota) (three : Three) (all workers : List Worker) (worker : Worker) → all ≡ workers ++ worker ∷ []
+    → AllWork rotas three all → WorksAt rotas three worker
+work_last rotas three all workers worker is are =
     are (length workers) worker
     (ap (λ (l : List Worker). slice_get l (length workers)) is ∙ last_there workers worker (length workers) refl)
 
-pub work_one : (rota : Rota) (three : Three) (workers : List Worker) (worker : Worker) → AllWork rota three workers
-    → WorksAt rota three worker → AllWork rota three (workers ++ worker ∷ [])
-work_one rota three workers worker are works place w at =
-    ⊎_elim (are place w) (λ e. subst (WorksAt rota three) e.1 works) (snoc_at workers worker w place at)
+pub work_one : (rotas : List Rota) (three : Three) (workers : List Worker) (worker : Worker) → AllWork rotas three workers
+    → WorksAt rotas three worker → AllWork rotas three (workers ++ worker ∷ [])
+work_one rotas three workers worker are works place w at =
+    ⊎_elim (are place w) (λ e. subst (WorksAt rotas three) e.1 works) (snoc_at workers worker w place at)
 
 -- so far the seats of the places below this number were read
 pub record SoFar (three : Three) (behind : ℕ) (slots : List (Option SeatShape)) (seats : List SeatShape) : Type 0 where
@@ -95,5 +95,5 @@ so_far_one three behind slots seats seat at was = record {
 pub none_done : (three : Three) (seats : List SeatShape) → seats ≡ [] → AreDone three seats
 none_done three seats none = subst (AreDone three) (sym none) (λ place seat at. absurd (cc))
 
-pub none_work : (rota : Rota) (three : Three) (workers : List Worker) → workers ≡ [] → AllWork rota three workers
-none_work rota three workers none = subst (AllWork rota three) (sym none) (λ place worker at. absurd (cc))
+pub none_work : (rotas : List Rota) (three : Three) (workers : List Worker) → workers ≡ [] → AllWork rotas three workers
+none_work rotas three workers none = subst (AllWork rotas three) (sym none) (λ place worker at. absurd (cc))

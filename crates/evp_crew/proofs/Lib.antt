@@ -6,10 +6,12 @@ pub mod Giving
 pub mod Lists
 pub mod OpeningFacts
 pub mod Parted
+pub mod Places
 pub mod Rotas
 pub mod Rotation
 pub mod SeatOpens
 pub mod Seated
+pub mod Serving
 pub mod Sitting
 pub mod Taking
 pub mod Through

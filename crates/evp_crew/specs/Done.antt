@@ -1,5 +1,5 @@
 -- Workers, and the seats that they found closed.
-use Rattle.std.specs.Prelude.{◌≡◌, ℕ, List, Some, slice_get}
+use Rattle.std.specs.Prelude.{◌≡◌, ◌<◌, ℕ, List, Some, length, slice_get}
 use Rattle.evp_stone.specs.declared.turn.Turn.{Turn}
 use Rattle.evp_stone.specs.declared.turn.Turn.TheVariants.{Moved, Idle, Blocked, Closed, Memory}
 use Rattle.evp_crew.specs.declared.rota.Rota.{Rota}
@@ -8,7 +8,7 @@ use Rattle.evp_crew.specs.declared.worker.Next.{Next}
 use Rattle.evp_crew.specs.declared.worker.Next.TheVariants.{Take, Hold, End}
 use Rattle.evp_crew.specs.declared.worker.Worker.{Worker}
 use Rattle.evp_stone.specs.Closed.{IsClosed}
-use Rattle.evp_crew.specs.Rota.{three_of, ServesIn}
+use Rattle.evp_crew.specs.Rota.{AreServing}
 use Rattle.evp_crew.specs.Rule.{IsOfThree}
 use Rattle.evp_crew.specs.Seat.{SeatShape, IsSeat}
 
@@ -30,14 +30,13 @@ abbrev pub AreDone : Three → List SeatShape → Type 0
 AreDone three seats = (place : ℕ) (seat : SeatShape) → slice_get seats place ≡ Some seat
     → IsDone three seat
 
--- a worker at this rota
-pub record WorksAt (rota : Rota) (three : Three) (worker : Worker) : Type 0 where
-  pub pass : ServesIn rota worker.pass
-  pub serves : three_of worker.pass ≡ Some three
+-- a worker at these rotas
+pub record WorksAt (rotas : List Rota) (three : Three) (worker : Worker) : Type 0 where
+  pub desks : AreServing three rotas worker.desks.items
   pub closed : AreDone three worker.closed.items
 
--- the seat with which a worker goes on is one of the rota's
-abbrev pub GoesOnWith : Three → Next → Type 0
-GoesOnWith three Take = Unit {0}
-GoesOnWith three (Hold seat) = IsOfThree three seat
-GoesOnWith three End = Unit {0}
+-- the seat with which a worker goes on is one of theirs, out of a rota that there is
+abbrev pub GoesOnWith : List Rota → Three → Next → Type 0
+GoesOnWith rotas three Take = Unit {0}
+GoesOnWith rotas three (Hold number seat) = (number < length rotas) × IsOfThree three seat
+GoesOnWith rotas three End = Unit {0}

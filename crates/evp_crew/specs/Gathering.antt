@@ -5,6 +5,6 @@ use Rattle.evp_crew.specs.declared.three.Three.{Three}
 use Rattle.evp_crew.specs.declared.worker.Worker.{Worker}
 use Rattle.evp_crew.specs.Done.{WorksAt}
 
-abbrev pub AllWork : Rota → Three → List Worker → Type 0
-AllWork rota three workers = (place : ℕ) (worker : Worker) → slice_get workers place ≡ Some worker
-    → WorksAt rota three worker
+abbrev pub AllWork : List Rota → Three → List Worker → Type 0
+AllWork rotas three workers = (place : ℕ) (worker : Worker) → slice_get workers place ≡ Some worker
+    → WorksAt rotas three worker

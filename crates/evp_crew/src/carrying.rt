@@ -1,31 +1,30 @@
 //! The carrying of a job: by workers, and where they leave something by the caller alone.
-ghost use Rattle.std.specs.Prelude.{◌≡◌, ◌≤◌, length, Some, IfOk, IfSome};
+ghost use Rattle.std.specs.Prelude.{◌≡◌, ◌≤◌, length, IfOk, IfSome};
 ghost use Rattle.evp_cache.specs.Known.{IsCacheOf};
-ghost use Rattle.evp_crew.specs.declared.three.Three.{Three};
 ghost use Rattle.evp_crew.specs.Carried.{IsCarried};
 ghost use Rattle.evp_crew.specs.Done.{WorksAt};
 ghost use Rattle.evp_crew.specs.Gathering.{AllWork};
-ghost use Rattle.evp_crew.specs.Rota.{three, three_of, ServesIn};
+ghost use Rattle.evp_crew.specs.Rota.{three, AreServing};
 
 use crate::alone::alone;
+use crate::apart::each_in;
 use crate::carried::Carried;
 use crate::crew::Crew;
 use crate::gate::Gate;
 use crate::gathering::gathered;
-use crate::rota::{Rota, RotaPass};
-use crate::seating::{add, put_all};
+use crate::seating::{Order, add, more_desks, rotas_of};
 use crate::watch::{NoWatch, Watch};
-use crate::worker::{Office, Worker};
+use crate::worker::{Desk, Office, Worker};
 use evp_base::Memory;
 use evp_cache::PlanCache;
 use evp_stone::Job;
 use std::alloc::Global;
 use std::sync::Wait;
-use std::thread;
 use std::thread::Threads;
 
-/// Carries a job by so many workers, 1 to 64, each in a thread where one can be made. The gate is
-/// called before each turn of a worker.
+/// Carries a job by so many workers, 1 to 64, each in a thread where one can be made. The seats stand
+/// in one rota, in which the next is the one that has stood there longest. The gate is called before
+/// each turn of a worker.
 pub fn carry<R: Threads + Wait + Sync, G: Gate + Sync>(
     rt: &R,
     alloc: Global,
@@ -36,12 +35,30 @@ pub fn carry<R: Threads + Wait + Sync, G: Gate + Sync>(
     requires { (1 ≤ workers) × (workers ≤ 64) }
     ensures { IfOk result (IsCarried job.now) }
 {
-    carry_watched(rt, alloc, job, workers, gate, &NoWatch)
+    carry_in(Order::Queued, rt, alloc, job, workers, gate, &NoWatch)
 }
 
-/// The same. The watch looks at each actor behind the turns that a worker did with it. Where the
-/// workers leave something and this thread carries the job anew, it isn't called.
+/// The same with a rota for each seat: a worker chooses which it takes, so that records stay near it
+/// (docs/DECISIONS.md). The watch looks at each actor behind the turns that a worker did with it.
+/// Where the workers leave something and this thread carries the job anew, it isn't called.
 pub fn carry_watched<R: Threads + Wait + Sync, G: Gate + Sync, W: Watch + Sync>(
+    rt: &R,
+    alloc: Global,
+    job: &Job,
+    workers: u32,
+    gate: &G,
+    watch: &W,
+) -> Result<Carried, Memory>
+    requires workers { (1 ≤ workers) × (workers ≤ 64) }
+    requires watch { W.is_for watch.now job.now }
+    ensures { IfOk result (IsCarried job.now) }
+{
+    carry_in(Order::Chosen, rt, alloc, job, workers, gate, watch)
+}
+
+// The same, by seats that stand in this order.
+fn carry_in<R: Threads + Wait + Sync, G: Gate + Sync, W: Watch + Sync>(
+    order: Order,
     rt: &R,
     alloc: Global,
     job: &Job,
@@ -55,7 +72,7 @@ pub fn carry_watched<R: Threads + Wait + Sync, G: Gate + Sync, W: Watch + Sync>(
 {
     let parts = job.parts();
     let cache = PlanCache::new(alloc, parts.formats.as_slice(), parts.declared)?;
-    match by_workers(rt, alloc, job, &cache, workers, gate, watch)? {
+    match by_workers(order, rt, alloc, job, &cache, workers, gate, watch)? {
         Some(carried) => Ok(carried),
         None => alone(rt, alloc, job, &cache),
     }
@@ -63,6 +80,7 @@ pub fn carry_watched<R: Threads + Wait + Sync, G: Gate + Sync, W: Watch + Sync>(
 
 // What so many workers carried, or none where they left a seat that isn't closed.
 fn by_workers<R: Threads + Wait + Sync, G: Gate + Sync, W: Watch + Sync>(
+    order: Order,
     rt: &R,
     alloc: Global,
     job: &Job,
@@ -79,43 +97,43 @@ fn by_workers<R: Threads + Wait + Sync, G: Gate + Sync, W: Watch + Sync>(
 {
     let (crew, seats) = Crew::new(rt, alloc, job, cache)?;
     let count = seats.len();
-    let (rota, mut pass) = Rota::new(rt, alloc, job, cache, &crew)?;
-    if !put_all(rt, &rota, &mut pass, seats) {
+    let Some((rotas, mut desks)) = rotas_of(order, rt, alloc, job, cache, &crew, seats)? else {
         return Ok(None);
-    }
-    let mut all = hired(rt, alloc, &rota, &mut pass, workers, count)?;
+    };
     let office = Office {
         job,
         cache,
         crew: &crew,
-        rota: &rota,
+        rotas: rotas.as_slice(),
+        workers,
     };
-    work_all(rt, &office, gate, watch, all.as_mut_slice());
+    let mut all = hired(rt, alloc, &office, desks.as_mut_slice(), count)?;
+    work_all(order, rt, &office, gate, watch, all.as_mut_slice());
     match gathered(alloc, count, all)? {
         Some(seats) => Ok(Some(Carried::new(alloc, job, cache, crew, seats)?)),
         None => Ok(None),
     }
 }
 
-// So many workers at a rota, each with room for so many seats.
+// The workers of an office, each with room for so many seats.
 fn hired<R: Wait>(
     rt: &R,
     alloc: Global,
-    rota: &Rota,
-    pass: &mut RotaPass,
-    workers: u32,
+    office: &Office<'_>,
+    desks: &mut [Desk],
     count: usize,
 ) -> Result<Vec<Worker>, Memory>
-    requires { ServesIn rota.now pass.old }
-    ensures work { (t : Three) → three_of pass.old ≡ Some t
-        → IfOk result (λ all. AllWork rota.now t all.items) }
-    ensures each { IfOk result (λ all. length all.items ≡ workers) }
+    requires { AreServing (three office.now.job.now office.now.cache.now office.now.crew.now)
+        office.now.rotas.now desks.old }
+    ensures work { IfOk result (λ all. AllWork office.now.rotas.now
+        (three office.now.job.now office.now.cache.now office.now.crew.now) all.items) }
+    ensures each { IfOk result (λ all. length all.items ≡ office.now.workers) }
 {
-    let mut all = Vec::with_capacity(alloc, workers as usize)?;
-    for number in 0..workers {
+    let mut all = Vec::with_capacity(alloc, office.workers as usize)?;
+    for number in 0..office.workers {
         let worker = Worker {
             number,
-            pass: rota.split(rt, pass)?,
+            desks: more_desks(rt, alloc, office, desks)?,
             closed: Vec::with_capacity(alloc, count)?,
         };
         add(&mut all, worker)?;
@@ -125,6 +143,7 @@ fn hired<R: Wait>(
 
 // All workers work until they end, each in a thread where one can be made.
 fn work_all<R: Threads + Wait + Sync, G: Gate + Sync, W: Watch + Sync>(
+    order: Order,
     rt: &R,
     office: &Office<'_>,
     gate: &G,
@@ -132,22 +151,21 @@ fn work_all<R: Threads + Wait + Sync, G: Gate + Sync, W: Watch + Sync>(
     all: &mut [Worker],
 )
     requires watch { W.is_for watch.now office.now.job.now }
-    requires work { AllWork office.now.rota.now
+    requires work { AllWork office.now.rotas.now
         (three office.now.job.now office.now.cache.now office.now.crew.now) all.old }
     ensures long { length all.new ≡ length all.old }
-    ensures work { AllWork office.now.rota.now
+    ensures work { AllWork office.now.rotas.now
         (three office.now.job.now office.now.cache.now office.now.crew.now) all.new }
 {
-    let threads = all.len().max(1);
-    thread::for_each_mut(
+    each_in(
+        order,
         rt,
         all,
-        threads,
         &|_, worker: &mut Worker|
             requires { W.is_for watch.now office.now.job.now
-                × WorksAt office.now.rota.now
+                × WorksAt office.now.rotas.now
                 (three office.now.job.now office.now.cache.now office.now.crew.now) worker.now }
-            ensures { WorksAt office.entry.now.rota.now
+            ensures { WorksAt office.entry.now.rotas.now
                 (three office.entry.now.job.now office.entry.now.cache.now
                 office.entry.now.crew.now) worker.exit.now }
         { worker.work(rt, office, gate, watch) },

@@ -1,5 +1,5 @@
 //! The gathering of the seats that workers found closed.
-ghost use Rattle.std.specs.Prelude.{◌≡◌, ◌++◌, ◌∷◌, [], length, IfOk, IfSome, OnOk};
+ghost use Rattle.std.specs.Prelude.{◌≡◌, ◌++◌, ◌∷◌, [], List, length, IfOk, IfSome, OnOk};
 ghost use Rattle.evp_crew.specs.declared.rota.Rota.{Rota};
 ghost use Rattle.evp_crew.specs.declared.three.Three.{Three};
 ghost use Rattle.evp_crew.specs.Carried.{AreSlots, AreFirst};
@@ -19,7 +19,7 @@ pub(crate) fn gathered(
     count: usize,
     mut workers: Vec<Worker>,
 ) -> Result<Option<Vec<Seat>>, Memory>
-    ensures { (rota : Rota) (three : Three) → AllWork rota three workers.items
+    ensures { (rotas : List Rota) (three : Three) → AllWork rotas three workers.items
         → IfOk result (λ found. IfSome found (λ seats. AreFirst three count seats.items)) }
 {
     let mut slots = no_seats(alloc, count)?;

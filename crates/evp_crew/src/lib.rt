@@ -2,8 +2,10 @@
 #![tactic(auto)]
 
 mod alone;
+mod apart;
 mod carried;
 mod carrying;
+mod course;
 mod crew;
 mod gate;
 mod gathering;

@@ -1,5 +1,5 @@
 //! The rota: the seats that no worker holds.
-ghost use Rattle.std.specs.Prelude.{◌≡◌, ◌+◌, length, Some, None, IfOk, IfErr, IfSome, IfNone};
+ghost use Rattle.std.specs.Prelude.{◌≡◌, ◌+◌, ◌<◌, length, Some, None, IfOk, IfErr, IfSome, IfNone};
 ghost use Rattle.crossbeam_queue.specs.Fifo.{Held};
 ghost use Rattle.crossbeam_queue.specs.Passes.{view, IsPassOf};
 ghost use Rattle.evp_crew.specs.Rota.{three, three_of, room_of, ServesIn};
@@ -31,7 +31,7 @@ pub struct RotaPass {
 
 impl Rota {
     /// An empty rota for the seats of this job, cache and crew, with room for every actor, and a
-    /// pass of it. The cache and the crew serve the contract alone.
+    /// pass of it.
     pub fn new<R: Wait>(
         _rt: &R,
         alloc: Global,
@@ -46,7 +46,31 @@ impl Rota {
             three_of made.1 ≡ Some (three job.now cache.now crew.now)) }
     {
         let parts = job.parts();
-        let (ring, mut pass) = Ring::ruled(alloc, parts.sources.len() + parts.stones.len())?;
+        Rota::with_room(
+            alloc,
+            parts.sources.len() + parts.stones.len(),
+            job,
+            cache,
+            crew,
+        )
+    }
+
+    /// The same with room for so many seats. The job, the cache and the crew serve the contract
+    /// alone.
+    pub(crate) fn with_room(
+        alloc: Global,
+        room: usize,
+        job: &Job,
+        cache: &PlanCache,
+        crew: &Crew,
+    ) -> Result<(Rota, RotaPass), Memory>
+        requires { 0 < room }
+        ensures room { IfOk result (λ made. room_of made.0 ≡ room) }
+        ensures pass { IfOk result (λ made. ServesIn made.0 made.1) }
+        ensures three { IfOk result (λ made.
+            three_of made.1 ≡ Some (three job.now cache.now crew.now)) }
+    {
+        let (ring, mut pass) = Ring::ruled(alloc, room)?;
         open_for::<Brand>(&ring, &mut pass, job, cache, crew);
         Ok((Rota { ring }, RotaPass { pass }))
     }

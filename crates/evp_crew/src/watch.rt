@@ -14,8 +14,8 @@ pub trait Watch {
         requires of { is_for self.now job.now }
         requires acted { HasActedSo job.now actor.now };
 
-    /// Is called by a worker that has no actor.
-    fn rest(&self, worker: u32);
+    /// Is called by a worker that has no actor, where the turns that it did last moved nothing.
+    fn rest(&self);
 }
 
 /// Looks at nothing.
@@ -27,5 +27,5 @@ impl Watch for NoWatch {
 
     fn look(&self, _job: &Job, _actor: &Actor) {}
 
-    fn rest(&self, _worker: u32) {}
+    fn rest(&self) {}
 }

@@ -1,9 +1,10 @@
-//! Workers: each takes seats out of the rota, does turns, and puts them back.
-ghost use Rattle.std.specs.Prelude.{◌≡◌};
+//! Workers: each takes seats out of their rotas, does turns, and puts them back.
+ghost use Rattle.std.specs.Prelude.{◌≡◌, ◌<◌, length};
 ghost use Rattle.evp_crew.specs.Done.{WorksAt, GoesOnWith};
 ghost use Rattle.evp_crew.specs.Rota.{three};
 ghost use Rattle.evp_crew.specs.Rule.{IsOfThree};
 
+use crate::course::Course;
 use crate::crew::Crew;
 use crate::gate::Gate;
 use crate::rota::{Rota, RotaPass};
@@ -13,10 +14,6 @@ use crate::watch::Watch;
 use evp_cache::PlanCache;
 use evp_stone::{Job, Turn};
 use std::sync::Wait;
-use std::thread;
-
-// After how many seats in a row that moved nothing a worker lets other threads run.
-const MOST_IDLE: u32 = 2;
 
 /// What all workers share.
 #[derive(Clone, Copy)]
@@ -24,14 +21,24 @@ pub(crate) struct Office<'a> {
     pub(crate) job: &'a Job,
     pub(crate) cache: &'a PlanCache,
     pub(crate) crew: &'a Crew,
-    pub(crate) rota: &'a Rota,
+    // One for all seats, or one for each by the numbers of actors.
+    pub(crate) rotas: &'a [Rota],
+    pub(crate) workers: u32,
 }
 
-/// A worker: its number, its pass of the rota, and the seats that it found closed.
+/// A worker's pass of a rota, and whether it found the rota's only seat closed, so that it needn't
+/// look again.
+#[derive(Drop)]
+pub(crate) struct Desk {
+    pub(crate) pass: RotaPass,
+    pub(crate) is_closed: bool,
+}
+
+/// A worker: its number, its passes of the rotas, and the seats that it found closed.
 #[derive(Drop)]
 pub(crate) struct Worker {
     pub(crate) number: u32,
-    pub(crate) pass: RotaPass,
+    pub(crate) desks: Vec<Desk>,
     pub(crate) closed: Vec<Seat>,
 }
 
@@ -40,14 +47,14 @@ pub(crate) struct Worker {
 pub(crate) enum Next {
     // It takes a seat.
     Take,
-    // It goes on with this one.
-    Hold(Seat),
+    // It goes on with this one, from the rota of this number.
+    Hold(usize, Seat),
     // It ends.
     End,
 }
 
 impl Worker {
-    /// Works until the rota is empty or a turn finds no memory.
+    /// Works until it finds no seat in any rota or a turn finds no memory.
     pub(crate) fn work<R: Wait, G: Gate, W: Watch>(
         &mut self,
         rt: &R,
@@ -56,42 +63,52 @@ impl Worker {
         watch: &W,
     )
         requires watch { W.is_for watch.now office.now.job.now }
-        requires works { WorksAt office.now.rota.now
+        requires works { WorksAt office.now.rotas.now
             (three office.now.job.now office.now.cache.now office.now.crew.now) self.old }
-        ensures { WorksAt office.now.rota.now
+        ensures { WorksAt office.now.rotas.now
             (three office.now.job.now office.now.cache.now office.now.crew.now) self.new }
     {
         let mut next = Next::Take;
-        // How many seats in a row moved nothing.
-        let mut idle = 0;
+        let mut course = Course::new(self.number, office.workers, office.rotas.len());
         for _ in rt.forever() {
             next = match next {
-                Next::Take => self.take(rt, office, watch, idle),
-                Next::Hold(seat) => self.serve(rt, office, gate, watch, seat, &mut idle),
+                Next::Take => self.take(rt, office, watch, &mut course),
+                Next::Hold(number, seat) => {
+                    self.serve(rt, office, gate, watch, number, seat, &mut course)
+                }
                 Next::End => return,
             };
         }
         unreachable!()
     }
 
-    // Takes a seat out of the rota, or ends where it is empty. It lets other threads run where the
-    // last seats moved nothing.
-    fn take<R: Wait, W: Watch>(&mut self, rt: &R, office: &Office<'_>, watch: &W, idle: u32) -> Next
-        requires { WorksAt office.now.rota.now
+    // Takes the next seat out of its rota, or ends where each is empty.
+    fn take<R: Wait, W: Watch>(
+        &mut self,
+        rt: &R,
+        office: &Office<'_>,
+        watch: &W,
+        course: &mut Course,
+    ) -> Next
+        requires { WorksAt office.now.rotas.now
             (three office.now.job.now office.now.cache.now office.now.crew.now) self.old }
-        ensures works { WorksAt office.now.rota.now
+        ensures works { WorksAt office.now.rotas.now
             (three office.now.job.now office.now.cache.now office.now.crew.now) self.new }
-        ensures next { GoesOnWith
+        ensures next { GoesOnWith office.now.rotas.now
             (three office.now.job.now office.now.cache.now office.now.crew.now) result }
     {
-        watch.rest(self.number);
-        if idle > MOST_IDLE {
-            thread::yield_now();
+        pause(watch, course);
+        let Some(number) = course.next(office.rotas.len()) else {
+            return Next::End;
+        };
+        let desk = &mut self.desks[number];
+        if !desk.is_closed {
+            if let Some(seat) = office.rotas[number].take(rt, &mut desk.pass) {
+                return Next::Hold(number, seat);
+            }
         }
-        match office.rota.take(rt, &mut self.pass) {
-            Some(seat) => Next::Hold(seat),
-            None => Next::End,
-        }
+        course.missed(office.rotas.len());
+        Next::Take
     }
 
     // Does turns with a seat and puts it back, or keeps it where it is closed.
@@ -101,50 +118,79 @@ impl Worker {
         office: &Office<'_>,
         gate: &G,
         watch: &W,
+        number: usize,
         mut seat: Seat,
-        idle: &mut u32,
+        course: &mut Course,
     ) -> Next
         requires watch { W.is_for watch.now office.now.job.now }
-        requires works { WorksAt office.now.rota.now
+        requires works { WorksAt office.now.rotas.now
             (three office.now.job.now office.now.cache.now office.now.crew.now) self.old }
         requires seat { IsOfThree
             (three office.now.job.now office.now.cache.now office.now.crew.now) seat }
-        ensures works { WorksAt office.now.rota.now
+        requires number { number < length office.now.rotas.now }
+        ensures works { WorksAt office.now.rotas.now
             (three office.now.job.now office.now.cache.now office.now.crew.now) self.new }
-        ensures next { GoesOnWith
+        ensures next { GoesOnWith office.now.rotas.now
             (three office.now.job.now office.now.cache.now office.now.crew.now) result }
     {
-        match visit(rt, office, gate, watch, self.number, &mut seat, idle) {
+        let turn = visit(
+            rt,
+            office,
+            gate,
+            watch,
+            self.number,
+            &mut seat,
+            &mut course.idle,
+        );
+        course.left(turn, office.rotas.len(), office.job.parts().sources.len());
+        match turn {
             Turn::Closed => {
                 let _number = seat.number();
+                self.desks[number].is_closed = office.rotas.len() > 1;
                 match self.closed.push(seat) {
                     Ok(()) => Next::Take,
                     Err(_) => Next::End,
                 }
             }
-            Turn::Memory => self.put_back(rt, office, seat, Next::End),
+            Turn::Memory => self.put_back(rt, office, number, seat, Next::End),
             Turn::Moved | Turn::Idle | Turn::Blocked(_) => {
-                self.put_back(rt, office, seat, Next::Take)
+                self.put_back(rt, office, number, seat, Next::Take)
             }
         }
     }
 
-    // Puts a seat back, and then does this, or goes on with the seat where it is handed back.
-    fn put_back<R: Wait>(&mut self, rt: &R, office: &Office<'_>, seat: Seat, then: Next) -> Next
-        requires works { WorksAt office.now.rota.now
+    // Puts a seat back into the rota of this number, and then does this, or goes on with the seat
+    // where it is handed back.
+    fn put_back<R: Wait>(
+        &mut self,
+        rt: &R,
+        office: &Office<'_>,
+        number: usize,
+        seat: Seat,
+        then: Next,
+    ) -> Next
+        requires works { WorksAt office.now.rotas.now
             (three office.now.job.now office.now.cache.now office.now.crew.now) self.old }
         requires seat { IsOfThree
             (three office.now.job.now office.now.cache.now office.now.crew.now) seat }
-        requires then { GoesOnWith
+        requires number { number < length office.now.rotas.now }
+        requires then { GoesOnWith office.now.rotas.now
             (three office.now.job.now office.now.cache.now office.now.crew.now) then }
-        ensures works { WorksAt office.now.rota.now
+        ensures works { WorksAt office.now.rotas.now
             (three office.now.job.now office.now.cache.now office.now.crew.now) self.new }
-        ensures next { GoesOnWith
+        ensures next { GoesOnWith office.now.rotas.now
             (three office.now.job.now office.now.cache.now office.now.crew.now) result }
     {
-        match office.rota.put(rt, &mut self.pass, seat) {
+        match office.rotas[number].put(rt, &mut self.desks[number].pass, seat) {
             Ok(()) => then,
-            Err(seat) => Next::Hold(seat),
+            Err(seat) => Next::Hold(number, seat),
         }
+    }
+}
+
+// Lets the watch work where the turns that were done last moved nothing.
+fn pause<W: Watch>(watch: &W, course: &Course) {
+    if course.idle > 0 {
+        watch.rest();
     }
 }

@@ -3,7 +3,7 @@
 ghost use Rattle.std.specs.Prelude.{◌≡◌};
 
 use super::{DIAMOND, FIVE, ONE, TERMINAL, document_of, job_of};
-use evp_crew::{Carried, Gate, OpenGate, carry};
+use evp_crew::{Carried, Gate, NoWatch, OpenGate, carry, carry_watched};
 use evp_depot::MemorySink;
 use evp_report::write_report;
 use evp_stone::Job;
@@ -98,17 +98,36 @@ pub fn report<R: Threads + Wait + Sync, G: Gate + Sync>(
     reported(alloc, job, carried)
 }
 
-// The report of the job of a row, with this text on queues.
-fn report_of<R: Threads + Wait + Sync>(
+// The same of a job that is carried by a rota for each seat.
+fn watched_report<R: Threads + Wait + Sync>(
+    rt: &R,
+    alloc: Global,
+    job: &Job,
+    workers: u32,
+) -> Result<Vec<u8>, Fail> {
+    if workers < 1 || workers > 64 {
+        return Err("workers".into());
+    }
+    let carried = carry_watched(rt, alloc, job, workers, &OpenGate, &NoWatch)
+        .ok()
+        .ok_or("memory")?;
+    reported(alloc, job, carried)
+}
+
+// The reports of the job of a row, with this text on queues, by one rota and by a rota for each seat.
+fn reports_of<R: Threads + Wait + Sync>(
     rt: &R,
     alloc: Global,
     row: &Row,
     queue: &str,
     workers: u32,
-) -> Result<Vec<u8>, Fail> {
+) -> Result<[Vec<u8>; 2], Fail> {
     let document = document_of(alloc, queue, row.stones, row.rounds)?;
     let job = job_of(alloc, document.as_str(), row.file).ok_or("a job")?;
-    report(rt, alloc, &job, workers, &OpenGate)
+    Ok([
+        report(rt, alloc, &job, workers, &OpenGate)?,
+        watched_report(rt, alloc, &job, workers)?,
+    ])
 }
 
 #[test]
@@ -117,11 +136,12 @@ fn reports_of_worked_jobs(rt: HostRuntime) -> Result<(), Fail> {
     for row in &ROWS {
         for queue in QUEUES {
             for workers in WORKERS {
-                let report = report_of(&rt, alloc, row, queue, workers)?;
-                assert_eq!(rt;
-                    (row.name, queue, workers, report.as_slice()),
-                    (row.name, queue, workers, row.report.as_bytes())
-                );
+                for report in &reports_of(&rt, alloc, row, queue, workers)? {
+                    assert_eq!(rt;
+                        (row.name, queue, workers, report.as_slice()),
+                        (row.name, queue, workers, row.report.as_bytes())
+                    );
+                }
             }
         }
     }

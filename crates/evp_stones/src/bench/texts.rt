@@ -16,12 +16,12 @@ use std::mem;
 use std::sync::Mutex;
 
 /// The texts of a report while its job is carried: whoever ends a round on a route makes the route's
-/// lines, and the first of the workers hashes those that come next, where it has no actor.
+/// lines, and a worker that has nothing else to do hashes those that come next.
 #[derive(Drop)]
 pub(super) struct Texts<J: OfJob> {
     alloc: Global,
     lines: Lines<J>,
-    // The first worker writes it all the time, and all read what is above.
+    // Whoever hashes writes it, and all read what is above.
     pen: CachePadded<Mutex<Pen<J>>>,
 }
 
@@ -69,11 +69,8 @@ impl<J: OfJob> Watch for Texts<J> {
         }
     }
 
-    /// The first worker hashes what comes next.
-    fn rest(&self, worker: u32) {
-        if worker > 0 {
-            return;
-        }
+    /// Hashes what comes next, where no other worker does.
+    fn rest(&self) {
         if let Some(mut pen) = self.pen.try_lock() {
             let _went = pen.go_on(&self.lines);
         }

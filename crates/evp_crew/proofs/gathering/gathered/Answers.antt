@@ -10,7 +10,7 @@ use Rattle.evp_crew.proofs.gathering.gathered.Goals.{in-Some, in_default}
 use Rattle.evp_crew.proofs.gathering.gathered.Goals as goal
 
 pub loop-init : goal.loop-init
-loop-init c = (c.in_ok-slots.ensures.long, λ rota three all. (all, c.in_ok-slots.ensures.none three))
+loop-init c = (c.in_ok-slots.ensures.long, λ rotas three all. (all, c.in_ok-slots.ensures.none three))
 
 pub loop-preserved : goal.loop-preserved
 loop-preserved c =
@@ -25,10 +25,10 @@ loop-preserved c =
           let items : c.match-pop.slots.items ≡ w.place_all.new.slots = ap (λ v. v.items) w.slots-is
           ∙ with_items_is c.loop.slots w.place_all.new.slots (long ∙ ap length before ∙ sym whole) in (
             ap length items ∙ long ∙ ap length before ∙ was.0,
-            λ rota three all.
-                let so_far = was.1 rota three all in
-                let last = work_last rota three c.loop.workers.items left worker w.in-Some.ensures.items so_far.0 in (
-                  work_front rota three c.loop.workers.items left worker w.in-Some.ensures.items so_far.0,
+            λ rotas three all.
+                let so_far = was.1 rotas three all in
+                let last = work_last rotas three c.loop.workers.items left worker w.in-Some.ensures.items so_far.0 in (
+                  work_front rotas three c.loop.workers.items left worker w.in-Some.ensures.items so_far.0,
                   subst (AreSlots three) (sym items)
                       (w.place_all.ensures.slots three last.closed (subst (AreSlots three) (sym before) so_far.1)),
                 ),
@@ -37,13 +37,13 @@ loop-preserved c =
           let same : left ≡ c.loop.workers.items = sym (w.in_default.ensures.items ∙ append-nil left) in
           let slots = ap (λ (v : Vec (Option Seat) Global). v.items) w.slots-is in (
             ap length slots ∙ was.0,
-            λ rota three all.
-                let so_far = was.1 rota three all in
-                (subst (AllWork rota three) (sym same) so_far.0, subst (AreSlots three) (sym slots) so_far.1),
+            λ rotas three all.
+                let so_far = was.1 rotas three all in
+                (subst (AllWork rotas three) (sym same) so_far.0, subst (AreSlots three) (sym slots) so_far.1),
           )
     ]
 
 pub returns : goal.returns
-returns c = λ rota three all.
+returns c = λ rotas three all.
     subst (λ (n : ℕ). IfOk c.all_of.result (λ found. IfSome found (λ seats. AreFirst three n seats.items))) c.loop.invariant.0
-    (c.all_of.ensures three (c.loop.invariant.1 rota three all).1)
+    (c.all_of.ensures three (c.loop.invariant.1 rotas three all).1)

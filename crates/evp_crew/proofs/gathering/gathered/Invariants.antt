@@ -1,4 +1,4 @@
-use Rattle.std.proofs.Common.{◌≡◌, length}
+use Rattle.std.proofs.Common.{◌≡◌, List, length}
 use Rattle.evp_crew.specs.declared.rota.Rota.{Rota}
 use Rattle.evp_crew.specs.declared.three.Three.{Three}
 use Rattle.evp_crew.specs.Carried.{AreSlots}
@@ -8,5 +8,5 @@ use Rattle.evp_crew.proofs.gathering.gathered.Given as goal
 abbrev pub invariant-loop : goal.invariant-loop
 invariant-loop l =
     (length l.slots.items ≡ l.fn.count)
-    × ((rota : Rota) (three : Three) → AllWork rota three l.fn.workers.items
-    → AllWork rota three l.workers.items × AreSlots three l.slots.items)
+    × ((rotas : List Rota) (three : Three) → AllWork rotas three l.fn.workers.items
+    → AllWork rotas three l.workers.items × AreSlots three l.slots.items)

@@ -4,5 +4,5 @@ use Rattle.evp_crew.proofs.worker.Worker.work.Given as goal
 
 abbrev pub invariant-loop : goal.invariant-loop
 invariant-loop g l =
-    WorksAt l.office.rota.now (three l.office.job.now l.office.cache.now l.office.crew.now) l.self
-    × GoesOnWith (three l.office.job.now l.office.cache.now l.office.crew.now) l.next
+    WorksAt l.office.rotas.now (three l.office.job.now l.office.cache.now l.office.crew.now) l.self
+    × GoesOnWith l.office.rotas.now (three l.office.job.now l.office.cache.now l.office.crew.now) l.next

@@ -1,0 +1,10 @@
+use Rattle.std.proofs.Common.{ℕ, refl, subst, arith}
+use Rattle.std.specs.Prelude.{get_or}
+use Rattle.std.specs.Fork.{ChangesAt}
+use Rattle.evp_crew.proofs.apart.each_apart.Goals as goal
+
+pub returns : goal.returns
+returns g c i d l =
+    let call : ℕ → Type 0 =
+    λ n. ChangesAt g.F.Fn c.args.f.now n (get_or c.args.all.now i d) (get_or c.begin.new.all i d) in
+    (refl, subst call (omega arith) (c.begin.ensures.each i d l))

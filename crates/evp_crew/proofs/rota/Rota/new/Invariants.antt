@@ -1,6 +1,0 @@
-use Rattle.std.proofs.Common.{Some}
-use Rattle.evp_crew.specs.Rota.{three}
-use Rattle.evp_crew.proofs.rota.Rota.new.Given as goal
-
-abbrev pub ghosts-open_for : goal.ghosts-open_for
-ghosts-open_for g a = record { three = Some (three a.job.now a.cache.now a.crew.now) }

@@ -27,7 +27,7 @@ serving_none three (r ∷ rotas) desks no_rota no_pass = absurd (cc)
 serving_none three [] (p ∷ desks) no_rota no_pass = absurd (cc)
 
 -- one rota more, with its pass
-pub serving_one : (three : Three) (rotas : List Rota) (desks : List Desk) (rota : Rota) (desk : Desk)
+serving_one : (three : Three) (rotas : List Rota) (desks : List Desk) (rota : Rota) (desk : Desk)
     → AreServing three rotas desks → IsServing three rota desk.pass → AreServing three (rotas ++ rota ∷ []) (desks ++ desk ∷ [])
 serving_one three rotas desks rota desk are is = record {
   long = omega (arith, length-append rotas (rota ∷ []), length-append desks (desk ∷ []), are.long);
@@ -47,6 +47,15 @@ serving_one three rotas desks rota desk are is = record {
     within [] k x at = absurd (cc)
     within (z ∷ xs) zero x at = omega arith
     within (z ∷ xs) (suc k) x at = let below = within xs k x at in omega arith
+
+-- the same of the lists that were made so
+pub serving_more : (three : Three) (rotas more : List Rota) (desks later : List Desk) (rota : Rota) (desk : Desk)
+    → more ≡ rotas ++ rota ∷ [] → later ≡ desks ++ desk ∷ [] → AreServing three rotas desks → IsServing three rota desk.pass
+    → AreServing three more later
+serving_more three rotas more desks later rota desk one other are is =
+    subst (λ (rs : List Rota). AreServing three rs later) (sym one)
+    (subst (λ (ds : List Desk). AreServing three (rotas ++ rota ∷ []) ds) (sym other)
+    (serving_one three rotas desks rota desk are is))
 
 -- the pass of one rota became another of it
 pub serving_set : (three : Three) (rotas : List Rota) (desks : List Desk) (place : ℕ) (rota : Rota) (old new : Desk)

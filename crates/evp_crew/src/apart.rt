@@ -8,8 +8,8 @@ use std::thread;
 use std::thread::Threads;
 
 /// Calls `f(i, &mut all[i])` at each place, each in a thread of its own where one can be made: by
-/// `for_each_mut` for seats that stand in one rota, else so that this thread begins all others, and
-/// none of them has to wait for a processor of one that began it (docs/DECISIONS.md).
+/// `for_each_mut` for seats that stand in one rota, else so that this thread begins all and only
+/// waits, and none of them shares a processor with one that began it (docs/DECISIONS.md).
 pub(crate) fn each_in<R: Threads + Sync, T: Send, F: Fn(usize, &mut T) + Sync>(
     order: Order,
     rt: &R,
@@ -26,15 +26,19 @@ pub(crate) fn each_in<R: Threads + Sync, T: Send, F: Fn(usize, &mut T) + Sync>(
     }
 }
 
-// The same, where this thread begins all others and is the last one.
+// The same, where this thread begins all of several.
 fn each_apart<R: Threads + Sync, T: Send, F: Fn(usize, &mut T) + Sync>(rt: &R, all: &mut [T], f: &F)
     requires { AcceptsEach F.Fn f.now all.old }
     ensures { ChangesEach F.Fn f.now all.old all.new }
 {
+    if all.len() < 2 {
+        in_turn(f, 0, all);
+        return;
+    }
     begin(rt, f, 0, all);
 }
 
-// The same for elements that are numbered from this on.
+// Begins a thread for each of these, which are numbered from this on.
 #[cycle(each)]
 fn begin<R: Threads + Sync, T: Send, F: Fn(usize, &mut T) + Sync>(
     rt: &R,
@@ -45,8 +49,7 @@ fn begin<R: Threads + Sync, T: Send, F: Fn(usize, &mut T) + Sync>(
     requires { AcceptsFrom F.Fn f.now from all.old }
     ensures { ChangesFrom F.Fn f.now from all.old all.new }
 {
-    if all.len() < 2 {
-        in_turn(f, from, all);
+    if all.is_empty() {
         return;
     }
     let (first, others) = all.split_at_mut(1);

@@ -54,7 +54,7 @@ impl Course {
     pub(crate) fn next(&mut self, seats: usize) -> Option<usize>
         ensures { IfSome result (λ number. number < seats) }
     {
-        if self.missing as usize > seats.saturating_sub(1).saturating_mul(2) {
+        if self.missing as usize > seats.saturating_sub(1).saturating_mul(4) {
             return None;
         }
         let number = match self.followed.last() {

@@ -1,8 +1,9 @@
 //! The rotas of a crew: one for all seats, or one for each.
-ghost use Rattle.std.specs.Prelude.{◌≡◌, ◌<◌, ◌++◌, ◌∷◌, [], Some, length, All};
+ghost use Rattle.std.specs.Prelude.{◌≡◌, ◌+◌, ◌<◌, ◌++◌, ◌∷◌, [], Some, length, All};
 ghost use Rattle.std.specs.Prelude.{IfOk, IfSome, IfNone, OnOk, false};
 ghost use Rattle.crossbeam_queue.specs.Fifo.{Held};
 ghost use Rattle.evp_crew.specs.Parting.{actors_of};
+ghost use Rattle.evp_crew.specs.declared.three.Three.{Three};
 ghost use Rattle.evp_crew.specs.Rota.{three, three_of, room_of, ServesIn, AreServing, IsServing};
 ghost use Rattle.evp_crew.specs.Rule.{IsOfThree, IsServed, Seen};
 
@@ -68,8 +69,7 @@ fn one_rota<R: Wait>(
     }
     let mut rotas = Vec::with_capacity(alloc, 1)?;
     let mut desks = Vec::with_capacity(alloc, 1)?;
-    add(&mut rotas, rota)?;
-    add(&mut desks, desk_of(pass))?;
+    add_rota(&mut rotas, &mut desks, rota, pass)?;
     Ok(Some((rotas, desks)))
 }
 
@@ -112,10 +112,25 @@ fn a_rota_each<R: Wait>(
         if let Err(_seat) = rota.put(rt, &mut pass, seat) {
             return Ok(None);
         }
-        add(&mut rotas, rota)?;
-        add(&mut desks, desk_of(pass))?;
+        add_rota(&mut rotas, &mut desks, rota, pass)?;
     }
     Ok(Some((rotas, desks)))
+}
+
+// Adds a rota, and a desk at it with this pass.
+fn add_rota(
+    rotas: &mut Vec<Rota>,
+    desks: &mut Vec<Desk>,
+    rota: Rota,
+    pass: RotaPass,
+) -> Result<(), Memory>
+    ensures serving { OnOk result ((three : Three) → AreServing three rotas.old.items desks.old.items
+        → IsServing three rota pass → AreServing three rotas.new.items desks.new.items) }
+    ensures one { OnOk result (length rotas.new.items ≡ length rotas.old.items + 1) }
+{
+    add(rotas, rota)?;
+    add(desks, desk_of(pass))?;
+    Ok(())
 }
 
 // A pass of a rota whose seat isn't known to be closed.

@@ -14,7 +14,8 @@ pub trait Watch {
         requires of { is_for self.now job.now }
         requires acted { HasActedSo job.now actor.now };
 
-    /// Is called by a worker that has no actor, where the turns that it did last moved nothing.
+    /// Is called by a worker that has no actor, where the turns that it did last moved nothing or the
+    /// seat that it tried wasn't there.
     fn rest(&self);
 }
 

@@ -7,6 +7,7 @@ ghost use Rattle.evp_stones.specs.Summary.{summary_text};
 ghost use Rattle.evp_stones.specs.Words.{AreWorkers};
 
 mod beside;
+mod four_sources;
 mod hashing;
 mod kept_text;
 mod laws;

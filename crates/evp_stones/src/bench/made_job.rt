@@ -1,17 +1,15 @@
 //! The large job that is made of a number.
-ghost use Rattle.std.specs.Prelude.{◌≡◌, ◌≤◌, ◌<◌, ◌+◌, IfOk, Ok};
-ghost use Rattle.std.specs.Thread.{IsSync};
+ghost use Rattle.std.specs.Prelude.{◌≡◌, ◌≤◌, IfOk, Ok};
 ghost use Rattle.evp_job.specs.Job.{StatesJob};
 ghost use Rattle.evp_job.specs.Stated.{IsStated, layouts_of};
 ghost use Rattle.evp_job.specs.TextView.{text_of};
 ghost use Rattle.evp_stone.specs.Job.{IsJob};
 ghost use Rattle.evp_stones.specs.Accepted.{IsAccepted};
 ghost use Rattle.evp_stones.specs.Bench.{IsMadeJob};
-ghost use Rattle.evp_stones.specs.MadeFiles.{AreMade, IsMade, IsMakeable, joined};
+ghost use Rattle.evp_stones.specs.MadeFiles.{AreMade, IsMakeable, joined};
 
-use super::beside::both;
+use super::four_sources::four_sources;
 use super::laws::each_bench_is_a_job;
-use super::made_source::{MadeSource, made_source};
 use super::room::ask_ahead;
 use evp_base::Memory;
 use evp_format::Format;
@@ -65,8 +63,7 @@ fn stated(alloc: Global, bytes: &[u8]) -> Result<JobText, Memory>
     }
 }
 
-// The sources with the generator's files. Each file is made and read, and its records are made, in
-// one thread, of which there are four, two or one.
+// The sources with the generator's files, which are made and read by so many threads at most.
 fn made_sources<R: Threads + Sync>(
     rt: &R,
     alloc: Global,
@@ -77,56 +74,11 @@ fn made_sources<R: Threads + Sync>(
     requires { IsMakeable text.now records }
     ensures { IfOk result (AreMade text.now records) }
 {
-    // room in this thread's heap, and below in that of each thread that only waits: all are workers'
-    // heaps later
-    ask_ahead(alloc);
-    let ((a, b), (c, d)) = both(
-        rt,
-        threads >= 2,
-        || -> (Result<MadeSource, Memory>, Result<MadeSource, Memory>)
-            requires { IsSync R.row × IsMakeable text.now records }
-            ensures { IsMade text.entry.now records 0 result.0
-                × IsMade text.entry.now records 1 result.1 }
-        { two_sources(rt, alloc, text, records, 0, threads) },
-        || -> (Result<MadeSource, Memory>, Result<MadeSource, Memory>)
-            requires { IsSync R.row × IsMakeable text.now records }
-            ensures { IsMade text.entry.now records 2 result.0
-                × IsMade text.entry.now records 3 result.1 }
-        { two_sources(rt, alloc, text, records, 2, threads) },
-    );
+    let ((a, b), (c, d)) = four_sources(rt, alloc, text, records, threads);
     let (a, b, c, d) = (a?, b?, c?, d?);
     let formats = vec![in alloc; a.format, b.format, c.format, d.format]?;
     let sources = vec![in alloc; a.source, b.source, c.source, d.source]?;
     Ok(MadeSources { formats, sources })
-}
-
-// The source of this number and the next one.
-fn two_sources<R: Threads + Sync>(
-    rt: &R,
-    alloc: Global,
-    text: &JobText,
-    records: u32,
-    source: usize,
-    threads: u32,
-) -> (Result<MadeSource, Memory>, Result<MadeSource, Memory>)
-    requires source { source < 3 }
-    requires makeable { IsMakeable text.now records }
-    ensures first { IsMade text.now records source result.0 }
-    ensures second { IsMade text.now records (source + 1) result.1 }
-{
-    ask_ahead(alloc);
-    both(
-        rt,
-        threads >= 4,
-        || -> Result<MadeSource, Memory>
-            requires { (source < 3) × IsMakeable text.now records }
-            ensures { IsMade text.entry.now records source result }
-        { made_source(alloc, text, records, source) },
-        || -> Result<MadeSource, Memory>
-            requires { (source < 3) × IsMakeable text.now records }
-            ensures { IsMade text.entry.now records (source + 1) result }
-        { made_source(alloc, text, records, source + 1) },
-    )
 }
 
 // The job that the document states, with its sources' records and their formats.

@@ -1,13 +1,10 @@
-use Rattle.std.proofs.Common.{◌≡◌, ◌∙◌, ◌++◌, ◌∷◌, [], zero, suc, List, length, sym, ap, subst, arith, length-append}
+use Rattle.std.proofs.Common.{◌≡◌, ◌∙◌, zero, suc, List, length, sym, ap, subst, arith}
 use Rattle.std.specs.Prelude.{All}
 use Rattle.std.specs.Vec.Iter.{into_iter_items}
-use Rattle.evp_crew.specs.declared.rota.Rota.{Rota}
-use Rattle.evp_crew.specs.declared.rota.RotaPass.{RotaPass}
-use Rattle.evp_crew.specs.declared.worker.Desk.{Desk}
-use Rattle.evp_crew.specs.Rota.{three, IsServing, AreServing}
+use Rattle.evp_crew.specs.Rota.{three}
 use Rattle.evp_crew.specs.Rule.{IsOfThree}
 use Rattle.evp_crew.specs.Seat.{SeatShape}
-use Rattle.evp_crew.proofs.Serving.{serving_none, serving_one}
+use Rattle.evp_crew.proofs.Serving.{serving_none}
 use Rattle.evp_crew.proofs.Working.{served_by}
 use Rattle.evp_crew.proofs.seating.a_rota_each.Goals as goal
 
@@ -32,18 +29,12 @@ pub loop-seat-preserved : goal.loop-seat-preserved
 loop-seat-preserved g c =
     let was = c.loop-seat.invariant in
     let t = three c.args.job.now c.args.cache.now c.args.crew.now in
-    let all = subst (λ (l : List SeatShape). All (IsOfThree t) l) c.in-Some.ensures.steps.0 was.1.0 in
-    let rotas = c.loop-seat.rotas.items in
-    let desks = c.loop-seat.desks.items in
-    let rota = c.in_ok-rota.rota in (
-      subst (λ (rs : List Rota). AreServing t rs c.add-in-loop-seat.new.list.items) (sym c.in_ok-add.ensures)
-          (subst (λ (ds : List Desk). AreServing t (rotas ++ rota ∷ []) ds) (sym c.in_ok-add-2.ensures)
-          (serving_one t rotas desks rota c.desk_of.result was.0
-          (subst (λ (p : RotaPass). IsServing t rota p) (sym c.desk_of.ensures)
-          record { serves = c.put.ensures.pass.0; knows = c.put.ensures.pass.1 ∙ c.in_ok-rota.ensures.three }))),
+    let all = subst (λ (l : List SeatShape). All (IsOfThree t) l) c.in-Some.ensures.steps.0 was.1.0 in (
+      c.in_ok-add_rota.ensures.serving t was.0
+          record { serves = c.put.ensures.pass.0; knows = c.put.ensures.pass.1 ∙ c.in_ok-rota.ensures.three },
       (
         λ k d below. all (suc k) d (omega arith),
-        let more = ap length c.in_ok-add.ensures in let one = length-append rotas (rota ∷ []) in
+        let one = c.in_ok-add_rota.ensures.one in
             let next = ap length c.in-Some.ensures.steps.0 in let so_far = was.1.1 in omega arith,
       ),
     )
